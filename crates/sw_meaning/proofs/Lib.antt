@@ -1,0 +1,7 @@
+mod Elements
+mod Lists
+mod Safety
+mod OneMeaning
+mod OnePlain
+mod Parts
+mod Earned

@@ -1,0 +1,9 @@
+pub mod Runs
+pub mod Space
+pub mod Inductive
+pub mod Classes
+pub mod Plain
+pub mod Verdict
+pub mod Report
+pub mod Small
+pub mod Laws
