@@ -19,10 +19,14 @@ use Rattle.sw_meaning.proofs.Parts.{classes_of_parts, parts_of_classes}
 earned_push : (p : Protocol) (t : Option Template) (before g : List Formula) (f : Formula) → EarnedAfter p t before g → InSpaceOf p t f → Inductive p (before ++ g) f → (Follows p (before ++ g) f → ⊥) → EarnedAfter p t before (g ++ f ∷ [])
 earned_push p t before [] f e s i n =
     (s, subst (λ h. Inductive p h f) (append-nil before) i, (λ k. n (subst (λ h. Follows p h f) (sym (append-nil before)) k)), tt)
-earned_push p t before (x ∷ g) f e s i n =
-    (e.0, e.1, e.2, earned_push p t (before ++ x ∷ []) g f e.3 s
-        (subst (λ h. Inductive p h f) (sym (append_assoc before (x ∷ []) g)) i)
-        (λ k. n (subst (λ h. Follows p h f) (append_assoc before (x ∷ []) g) k)))
+earned_push p t before (x ∷ g) f e s i n = (
+  e.0,
+  e.1,
+  e.2,
+  earned_push p t (before ++ x ∷ []) g f e.3 s
+      (subst (λ h. Inductive p h f) (sym (append_assoc before (x ∷ []) g)) i)
+      (λ k. n (subst (λ h. Follows p h f) (append_assoc before (x ∷ []) g) k)),
+)
 
 -- what a step keeps, all of its steps keep
 until_keeps : {G : Type 0} (Once : G → G → Type 0) (P : G → Type 0) → ((g h : G) → Once g h → P g → P h) → {g h : G} → Until Once g h → P g → P h
@@ -99,7 +103,7 @@ module _ (p : Protocol) (t : Template) (cover : ClassesCover p t) where
   after_earned g h class c (After.left n e) a = subst IsEarned (sym e) a
   after_earned g h class c (After.added adds e) a =
       subst IsEarned (sym e) (subst (λ fs. Earned p (Some t) fs) (sym (formulas_push g class))
-          (earned_push p (Some t) [] (formulas_of p t g) (formula_of p.signature t class) a (cover.sound class c) adds.inductive adds.novel))
+      (earned_push p (Some t) [] (formulas_of p t g) (formula_of p.signature t class) a (cover.sound class c) adds.inductive adds.novel))
 
   passage_earned : (part : List (List ℕ)) → AllByRecursion IsClass part → (g h : List (List ℕ)) → Passage p t part g h → IsEarned g → IsEarned h
   passage_earned part cs g h f a = folds_keep (After p t) IsClass IsEarned after_earned part cs g h f a
@@ -110,7 +114,7 @@ module _ (p : Protocol) (t : Template) (cover : ClassesCover p t) where
   round_earned : (g h : List (List ℕ)) → Round p t g h → IsEarned g → IsEarned h
   round_earned g h f a =
       folds_keep (λ from part to. Until (Passage p t part) from to) (AllByRecursion IsClass) IsEarned
-          (λ g h part cs u b. until_keeps (Passage p t part) IsEarned (passage_earned part cs) u b) (parts p.signature t) each_part g h f a
+      (λ g h part cs u b. until_keeps (Passage p t part) IsEarned (passage_earned part cs) u b) (parts p.signature t) each_part g h f a
 
   after_grows : (g h : List (List ℕ)) (class : List ℕ) → After p t g class h → Grows g h
   after_grows g h class (After.added adds e) = (class ∷ [], e)
@@ -133,8 +137,8 @@ module _ (p : Protocol) (t : Template) (cover : ClassesCover p t) where
   all_at_rest : (g : List (List ℕ)) → Round p t g g → AllByRecursion (AddsNot g) (classes p.signature t)
   all_at_rest g f =
       classes_of_parts p.signature t (AddsNot g)
-          (each-weaker (λ part. Until (Passage p t part) g g) (AllByRecursion (AddsNot g)) (part_at_rest g) (parts p.signature t)
-              (folds_rest (λ from part to. Until (Passage p t part) from to) (λ g h part u. until_grows (Passage p t part) (passage_grows part) u) (parts p.signature t) g f))
+      (each-weaker (λ part. Until (Passage p t part) g g) (AllByRecursion (AddsNot g)) (part_at_rest g) (parts p.signature t)
+      (folds_rest (λ from part to. Until (Passage p t part) from to) (λ g h part u. until_grows (Passage p t part) (passage_grows part) u) (parts p.signature t) g f))
 
   closed : (g : List (List ℕ)) → AllByRecursion (AddsNot g) (classes p.signature t) → Closed p (Some t) (formulas_of p t g)
   closed g none f s i =
@@ -147,7 +151,7 @@ module _ (p : Protocol) (t : Template) (cover : ClassesCover p t) where
       } in
       let adds_not : AddsNot g class = of_contained (AddsNot g) (classes p.signature t) class none found.1.0 in
       let follows : Follows p (formulas_of p t g) (formula_of p.signature t class) =
-          follows_stable p (formulas_of p t g) (formula_of p.signature t class) (λ n. adds_not (record { inductive = too; novel = n })) in
+      follows_stable p (formulas_of p t g) (formula_of p.signature t class) (λ n. adds_not (record { inductive = too; novel = n })) in
       λ u k x a. same u ∙ follows u k x a
 
 pub plain_is_earned : PlainIsEarned

@@ -5,3 +5,8 @@ mod OneMeaning
 mod OnePlain
 mod Parts
 mod Earned
+mod Equations
+mod Bodies
+mod Sets
+mod SmallLiterals
+mod SmallCover

@@ -24,9 +24,10 @@ inductive_under p g h f all i = record { start = i.start; kept = λ s t x a b. i
 all_follow : (p : Protocol) (t : Option Template) (g before h : List Formula) → Closed p t g → AllFollow p g before → EarnedAfter p t before h → AllFollow p g h
 all_follow p t g before [] closed all earned s k x a = tt
 all_follow p t g before (f ∷ fs) closed all earned s k x a =
-    let follows : Follows p g f = closed f earned.0 (inductive_under p g before f all earned.1) in
-    (follows s k x a,
-    all_follow p t g (before ++ f ∷ []) fs closed (λ u l y b. AreTrueIn-push p.signature u before f (all u l y b) (follows u l y b)) earned.3 s k x a)
+    let follows : Follows p g f = closed f earned.0 (inductive_under p g before f all earned.1) in (
+      follows s k x a,
+      all_follow p t g (before ++ f ∷ []) fs closed (λ u l y b. AreTrueIn-push p.signature u before f (all u l y b) (follows u l y b)) earned.3 s k x a,
+    )
 
 each_follows : (p : Protocol) (g h : List Formula) → AllFollow p g h → AllByRecursion (Follows p g) h
 each_follows p g [] all = tt

@@ -23,9 +23,10 @@ always_inductive p g f i h (step {s} {t} r x) = i.kept s t x (h s r) (always_ind
 
 always_earned : (p : Protocol) (t : Option Template) (before g : List Formula) → EarnedAfter p t before g → AlwaysTrue p before → AlwaysTrue p g
 always_earned p t before [] e h s r = tt
-always_earned p t before (f ∷ fs) e h s r =
-    (always_inductive p before f e.1 h r,
-    always_earned p t (before ++ f ∷ []) fs e.3 (λ u q. AreTrueIn-push p.signature u before f (h u q) (always_inductive p before f e.1 h q)) s r)
+always_earned p t before (f ∷ fs) e h s r = (
+  always_inductive p before f e.1 h r,
+  always_earned p t (before ++ f ∷ []) fs e.3 (λ u q. AreTrueIn-push p.signature u before f (h u q) (always_inductive p before f e.1 h q)) s r,
+)
 
 always_safe : (p : Protocol) (g : List Formula) → SafeBy p g → AlwaysTrue p g → {s : Structure} → Reached p s → AreTrueIn p.signature s p.safeties
 always_safe p g b h (start {s} x) = b.start s x
