@@ -1,8 +1,8 @@
-use Rattle.std.proofs.Common.{◌≡◌, ℕ, ◌+◌, ◌*◌, ◌<◌, ◌≤◌, min, drop, length, List, [], Some, None, sym, ◌∙◌, ap, refl, arith}
+use Rattle.std.proofs.Common.{◌≡◌, ◌+◌, ◌*◌, ◌≤◌, min, drop, length, Some, sym, ◌∙◌, ap, refl, arith}
 use Rattle.std.specs.Prelude.{slice_get}
 use Rattle.std.proofs.lemmas.List.{length-map}
 use Rattle.std.proofs.lemmas.Option.{slice_get_read, slice_get-map, slice_get_past}
-use Rattle.sw_logic.specs.Truth.{world, table_at, place, size_of, place_from, values_of, value_of, value_in}
+use Rattle.sw_logic.specs.Truth.{world, table_at, place, size_of, values_of, value_of, value_in}
 use Rattle.sw_logic.proofs.Steps.{value_of-Apply}
 use Rattle.sw_logic.proofs.Places.{drop-none, place_more, place_end, place_stop}
 use Rattle.sw_logic.proofs.evaluate.World.+term.Goals as goal

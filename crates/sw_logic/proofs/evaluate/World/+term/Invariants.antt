@@ -1,6 +1,6 @@
 -- What is left of the arguments adds to the place so far what all of them add to 0.
 use Rattle.std.proofs.Common.{◌≡◌, ◌≤◌, min, drop}
-use Rattle.sw_logic.specs.Truth.{world, place_from, values_of, args_of}
+use Rattle.sw_logic.specs.Truth.{world, place_from, values_of}
 use Rattle.sw_logic.proofs.evaluate.World.+term.Given as goal
 
 abbrev pub invariant-place-loop-i : goal.invariant-place-loop-i
