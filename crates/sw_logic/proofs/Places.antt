@@ -17,7 +17,7 @@ drop-none [] (suc i) e = refl
 drop-none (y ∷ xs) zero e = absurd (none-some y (sym e))
 drop-none (y ∷ xs) (suc i) e = drop-none xs i e
 
-min-mul : (m a s v : ℕ) → min m (min m a * s + v) ≡ min m (a * s + v)
+pub min-mul : (m a s v : ℕ) → min m (min m a * s + v) ≡ min m (a * s + v)
 min-mul m a zero v = simp mul-zero
 min-mul m a (suc s) v =
     elim (cases_lt m a) [
