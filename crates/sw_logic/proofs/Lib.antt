@@ -1,0 +1,4 @@
+mod Counting
+mod Places
+mod Quantifiers
+mod Steps
