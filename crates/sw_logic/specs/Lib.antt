@@ -1,4 +1,3 @@
 pub mod Fits
-pub mod InScope
 pub mod Sorted
 pub mod Truth

@@ -3,7 +3,6 @@
 
 mod evaluate;
 mod fitting;
-mod scopes;
 pub mod structure;
 pub mod syntax;
 pub mod variables;

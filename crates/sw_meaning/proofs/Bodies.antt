@@ -22,7 +22,7 @@ single_choices [] = refl
 single_choices (x ∷ xs) = ap (λ rest. (x ∷ []) ∷ rest) (single_choices xs)
 
 -- the bodies that take the first cube, where it is single, and those that do not
-split : (at : ℕ) (cube : List ℕ) (rest : List (List ℕ)) (n : ℕ) → length cube ≡ 1
+pub split : (at : ℕ) (cube : List ℕ) (rest : List (List ℕ)) (n : ℕ) → length cube ≡ 1
     → bodies_from at (cube ∷ rest) (suc n) ≡ map (λ body. at ∷ body) (bodies_from (at + 1) rest n) ++ bodies_from (at + 1) rest (suc n)
 split at cube rest n e =
     ap (λ k. cond (nat_le k (suc n)) (map (λ body. at ∷ body) (bodies_from (at + 1) rest (suc n - k))) [] ++ bodies_from (at + 1) rest (suc n)) e

@@ -91,24 +91,24 @@ sum_of_singles [] a = refl
 sum_of_singles (cube ∷ body) a = sum_by-cons length cube body ∙ (ap (λ n. n + sum_by length body) a.0 ∙ (ap (λ n. 1 + n) (sum_of_singles body a.1) ∙ omega arith))
 
 module _ (p : Protocol) (k : ℕ) (small : IsSmall p) where
-  abbrev numbered : List Formula
+  abbrev pub numbered : List Formula
   numbered = literals p.signature (small_template k)
 
   -- the literal of a number
-  abbrev literal : ℕ → Formula
+  abbrev pub literal : ℕ → Formula
   literal c = unwrap_or (slice_get numbered c) False
 
   -- the one-literal cubes
-  abbrev singles : List (List ℕ)
+  abbrev pub singles : List (List ℕ)
   singles = map (λ c. c ∷ []) (range_with_len 0 (length numbered))
 
-  cubes_are : cubes p.signature (small_template k) ≡ singles
+  pub cubes_are : cubes p.signature (small_template k) ≡ singles
   cubes_are = append-nil (choices 1 (range_with_len 0 (length numbered))) ∙ single_choices (range_with_len 0 (length numbered))
 
-  are_single : AreSingle singles
+  pub are_single : AreSingle singles
   are_single = each-map (λ cube. length cube ≡ 1) (λ c. c ∷ []) (range_with_len 0 (length numbered)) (each-any (λ c. length (c ∷ []) ≡ 1) (λ c. refl) (range_with_len 0 (length numbered)))
 
-  singles_length : length singles ≡ length numbered
+  pub singles_length : length singles ≡ length numbered
   singles_length = length-map (range_with_len 0 (length numbered)) (λ c. c ∷ []) ∙ range_length 0 (length numbered)
 
   -- a cube's literals are its one literal
@@ -118,7 +118,7 @@ module _ (p : Protocol) (k : ℕ) (small : IsSmall p) where
       ap (λ cs. slice_get cs c) cubes_are ∙ (mapped_at (λ c. c ∷ []) (range_with_len 0 (length numbered)) c (0 + c) (range_at 0 (length numbered) c h) ∙ ap (λ x. Some (x ∷ [])) (omega arith)) in
       ap (λ o. all_of (literals_at p.signature (small_template k) (unwrap_or o []))) found
 
-  class_formula : (class : List ℕ) → AllBelow (length numbered) class → formula_of p.signature (small_template k) class ≡ any_of (map literal class)
+  pub class_formula : (class : List ℕ) → AllBelow (length numbered) class → formula_of p.signature (small_template k) class ≡ any_of (map literal class)
   class_formula class b = ap any_of (each_cube class b)
     where
       each_cube : (cs : List ℕ) → AllBelow (length numbered) cs →
@@ -127,7 +127,7 @@ module _ (p : Protocol) (k : ℕ) (small : IsSmall p) where
       each_cube (c ∷ cs) b = ap (λ f. f ∷ map all_of (map (λ c. literals_at p.signature (small_template k) (unwrap_or (slice_get (cubes p.signature (small_template k)) c) [])) cs)) (cube_formula c b.0)
           ∙ ap (λ fs. literal c ∷ fs) (each_cube cs b.1)
 
-  class_truth : (w : World) (class : List ℕ) → AllBelow (length numbered) class → truth w (formula_of p.signature (small_template k) class) [] ≡ list_any (λ c. truth w (literal c) []) class
+  pub class_truth : (w : World) (class : List ℕ) → AllBelow (length numbered) class → truth w (formula_of p.signature (small_template k) class) [] ≡ list_any (λ c. truth w (literal c) []) class
   class_truth w class b = ap (λ f. truth w f []) (class_formula class b) ∙ (truth_of_any w (map literal class) ∙ any_of_map (λ f. truth w f []) literal class)
 
   -- what a class is: a nonempty list of at most k numbers of literals
@@ -136,11 +136,11 @@ module _ (p : Protocol) (k : ℕ) (small : IsSmall p) where
     pub size : length class ≤ k
     pub below : AllBelow (length numbered) class
 
-  class_of_body : (n : ℕ) → 1 ≤ n → n < 1 + k → (class : List ℕ) → IsBody (0 + length singles) n class → IsSmallClass class
+  pub class_of_body : (n : ℕ) → 1 ≤ n → n < 1 + k → (class : List ℕ) → IsBody (0 + length singles) n class → IsSmallClass class
   class_of_body n low high class b =
       record { some = omega (arith, b.size); size = omega (arith, b.size); below = subst (λ m. AllBelow m class) (let e : 0 + length singles ≡ length numbered = omega (arith, singles_length) in e) b.below }
 
-  classes_are : AllByRecursion IsSmallClass (classes p.signature (small_template k))
+  pub classes_are : AllByRecursion IsSmallClass (classes p.signature (small_template k))
   classes_are =
       let bodies : ℕ → List (List ℕ) = λ n. bodies_from 0 (cubes p.signature (small_template k)) n in
       each-flat_map IsSmallClass bodies (range_with_len 1 k)

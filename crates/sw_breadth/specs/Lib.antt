@@ -1,0 +1,5 @@
+pub mod States
+pub mod Tables
+pub mod Steps
+pub mod Numbers
+pub mod Search

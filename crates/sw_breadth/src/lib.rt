@@ -1,0 +1,10 @@
+//! Breadth on protocols of a few switches, by tables of truth over all of their states.
+#![tactic(auto)]
+
+mod classes;
+mod small;
+mod states;
+mod steps;
+mod tables;
+
+pub use small::is_small;
