@@ -1,1 +1,4 @@
 mod Flat
+mod Maps
+mod Switches
+mod Candidates

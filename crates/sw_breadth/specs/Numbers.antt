@@ -1,6 +1,6 @@
 -- The classes of a small protocol as numbers of literals, with their tables.
-use Rattle.std.specs.Prelude.{ℕ, zero, suc, ◌+◌, Bool, false, List, [], ◌∷◌, ◌++◌, map, length, unwrap_or, slice_get}
-use Rattle.std.specs.List.{flat_map, range_with_len, list_any}
+use Rattle.std.specs.Prelude.{ℕ, zero, suc, ◌+◌, ◌<◌, ◌==◌, Bool, false, List, [], ◌∷◌, ◌++◌, map, length, unwrap_or, slice_get}
+use Rattle.std.specs.List.{AllByRecursion, filter, flat_map, range_with_len, list_any}
 use Rattle.sw_logic.specs.declared.syntax.Formula.{Formula}
 use Rattle.sw_logic.specs.declared.syntax.Formula.TheVariants.{Holds, False}
 use Rattle.sw_logic.specs.Truth.{truth, world}
@@ -35,3 +35,11 @@ any_table p cs = map (λ s. list_any (λ c. truth (world p.signature s s) (liter
 -- a class with the table of its formula
 abbrev pub candidate_of : Protocol → List ℕ → Candidate
 candidate_of p body = record { body = body; table = table_of p (formula_of p.signature (small_template 1) body) }
+
+-- each of the numbers is below n
+abbrev pub AreBelow : ℕ → List ℕ → Type 0
+AreBelow n cs = AllByRecursion (λ c. c < n) cs
+
+-- the bodies whose least number is this one
+abbrev pub with_least : List (List ℕ) → ℕ → List (List ℕ)
+with_least bodies least = filter (λ body. unwrap_or (slice_get body 0) 0 == least) bodies

@@ -1,12 +1,16 @@
 //! The classes of a small protocol's template, part by part, each with the table of its formula.
-ghost use Rattle.std.specs.Prelude.{◌≡◌, ℕ, ◌+◌, ◌*◌, ◌^◌, ◌<◌, ◌≤◌, ◌==◌, ◌++◌, ◌∷◌, map, length, IfOk, unwrap_or, slice_get};
-ghost use Rattle.std.specs.List.{AllByRecursion, filter, range_with_len, flat_map};
+ghost use Rattle.std.specs.Prelude.{◌≡◌, ℕ, ◌+◌, ◌^◌, ◌<◌, ◌≤◌, ◌==◌, ◌++◌, ◌∷◌, map, length, IfOk, unwrap_or, slice_get};
+ghost use Rattle.std.specs.List.{AllByRecursion, filter, range_with_len};
+ghost use Rattle.sw_meaning.specs.declared.protocol.Protocol.{Protocol};
 ghost use Rattle.sw_meaning.specs.Small.{IsSmall, small_template};
-ghost use Rattle.sw_meaning.specs.Classes.{parts, part, literals};
+ghost use Rattle.sw_meaning.specs.Classes.{parts};
+ghost use Rattle.sw_breadth.specs.States.{states_of};
+ghost use Rattle.sw_breadth.specs.Numbers.{rising_lists, literal_tables, candidate_of, AreBelow, with_least};
 
+use crate::lists::push_with_first;
+use crate::tables::join;
 use sqlite_items::Items;
 use std::alloc::{AllocError, Global};
-use sw_logic::Formula;
 use sw_meaning::Protocol;
 
 /// A class: the numbers of its literals, rising, and the states where its formula is true.
@@ -14,4 +18,87 @@ use sw_meaning::Protocol;
 pub struct Candidate {
     pub body: Items<u32>,
     pub table: Items<bool>,
+}
+
+/// The rising lists of `size` numbers out of `count`, from `from` on, in lexicographic order.
+fn rising_lists(
+    alloc: Global,
+    from: u32,
+    count: u32,
+    size: u32,
+) -> Result<Items<Items<u32>>, AllocError>
+    requires { from + count < 2 ^ 32 }
+    ensures { IfOk result (λ all. all ≡ rising_lists from count size) }
+{
+    let mut all = Items::new(alloc);
+    if size == 0 {
+        all.push(Items::new(alloc))?;
+        return Ok(all);
+    }
+    if count == 0 {
+        return Ok(all);
+    }
+    let rests = rising_lists(alloc, from + 1, count - 1, size - 1)?;
+    push_with_first(alloc, &mut all, from, rests.as_slice())?;
+    let others = rising_lists(alloc, from + 1, count - 1, size)?;
+    all.append(others)?;
+    Ok(all)
+}
+
+/// The bodies whose least number is this one.
+fn with_least(
+    alloc: Global,
+    bodies: &[Items<u32>],
+    least: u32,
+) -> Result<Items<Items<u32>>, AllocError>
+    ensures { IfOk result (λ part. part ≡ with_least bodies.now least) }
+{
+    let mut part = Items::new(alloc);
+    for body in bodies {
+        if body.get(0).copied().unwrap_or(0) == least {
+            part.push(Items::from_slice(alloc, body.as_slice())?)?;
+        }
+    }
+    Ok(part)
+}
+
+/// The tables of a protocol's literals, by number, and the number of its states.
+#[derive(Clone, Copy)]
+pub struct Literals<'a> {
+    pub protocol: &'a Protocol,
+    pub tables: &'a [Items<bool>],
+    pub states: usize,
+}
+
+impl Literals<'_> {
+    fn candidate(&self, alloc: Global, body: &[u32]) -> Result<Candidate, AllocError>
+        requires small { IsSmall self.now.protocol.now }
+        requires tables { self.now.tables.now ≡ literal_tables self.now.protocol.now }
+        requires states { self.now.states ≡ length (states_of self.now.protocol.now) }
+        requires below { AreBelow (length self.now.tables.now) body.now }
+        ensures { IfOk result (λ c. c ≡ candidate_of self.now.protocol.now body.now) }
+    {
+        let mut table = vec![in alloc; false; self.states]?;
+        for literal in body {
+            table = join(alloc, table.as_slice(), self.tables[*literal as usize].as_slice())?;
+        }
+        Ok(Candidate {
+            body: Items::from_slice(alloc, body)?,
+            table: Items::from_vec(table),
+        })
+    }
+
+    fn candidates(&self, alloc: Global, part: &[Items<u32>]) -> Result<Items<Candidate>, AllocError>
+        requires small { IsSmall self.now.protocol.now }
+        requires tables { self.now.tables.now ≡ literal_tables self.now.protocol.now }
+        requires states { self.now.states ≡ length (states_of self.now.protocol.now) }
+        requires below { AllByRecursion (AreBelow (length self.now.tables.now)) part.now }
+        ensures { IfOk result (λ cs. cs ≡ map (candidate_of self.now.protocol.now) part.now) }
+    {
+        let mut candidates = Items::new(alloc);
+        for body in part {
+            candidates.push(self.candidate(alloc, body.as_slice())?)?;
+        }
+        Ok(candidates)
+    }
 }

@@ -2,6 +2,8 @@
 #![tactic(auto)]
 
 mod classes;
+mod lists;
+mod literals;
 mod small;
 mod states;
 mod steps;
