@@ -6,17 +6,19 @@ use Rattle.std.specs.Prelude.{option_map}
 use Rattle.sw_edge.specs.Edge.{Loses, Took, ReadGives, Gains, GainsPrefix}
 use Rattle.sw_edge.specs.declared.edge.Got.TheVariants as got
 
+-- what a source loses in two parts
 pub Loses-append : (a b c : Option (List ℕ)) (xs ys : List ℕ) → Loses a b xs → Loses b c ys → Loses a c (xs ++ ys)
 Loses-append a b None xs ys first second = cc
 Loses-append a b (Some left) xs ys first second =
     first ∙ ap (option_map (λ l. xs ++ l)) second ∙ ap Some (sym (append_assoc xs ys left))
 
+-- what a sink gains in two parts
 pub Gains-append : (a b c : Option (List ℕ)) (xs ys : List ℕ) → Gains a b xs → Gains b c ys → Gains a c (xs ++ ys)
 Gains-append None b c xs ys first second = cc
 Gains-append (Some held) b c xs ys first second =
     second ∙ ap (option_map (λ h. h ++ ys)) first ∙ ap Some (append_assoc held xs ys)
 
--- what lies from i on: the n bytes there, which were copied to the front of a buffer, and what lies behind them
+-- what lies from i on: n bytes, which were copied to the front of a buffer, and what lies behind them
 pub drop-take_copied : (i n : ℕ) (bytes copied behind : List ℕ) → i + n ≤ length bytes → copied ≡ take (i + n - i) (drop i bytes)
     → drop i bytes ≡ take n (copied ++ behind) ++ drop (i + n) bytes
 drop-take_copied i n bytes copied behind fits is =

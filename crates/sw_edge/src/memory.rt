@@ -1,5 +1,5 @@
 // A source and a sink in memory, which follow a list of turns and then move all that they can.
-ghost use Rattle.std.specs.Prelude.{◌≡◌, ◌-◌, ◌<◌, ◌≤◌, [], length, drop, slice_get, vec_len, vec_capacity, Some, IfOk};
+ghost use Rattle.std.specs.Prelude.{◌≡◌, ◌-◌, ◌<◌, ◌≤◌, [], length, drop, slice_get, Some, IfOk};
 ghost use Rattle.sw_edge.specs.Edge.{ReadGives, ReadCause, WriteGives, WriteCause, faults_after_read, faults_after_write};
 ghost use Rattle.sw_edge.specs.Turns.{most_of, got_of, put_of};
 
