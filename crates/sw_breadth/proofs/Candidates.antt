@@ -1,8 +1,9 @@
 -- The table of a class, from the tables of its literals.
-use Rattle.std.specs.Prelude.{◌≡◌, ℕ, zero, suc, ◌+◌, ◌<◌, ◌≤◌, ◌||◌, Bool, true, false, List, [], ◌∷◌, ◌++◌, map, length, take, replicate}
-use Rattle.std.specs.List.{AllByRecursion, list_any}
-use Rattle.std.proofs.Common.{refl, arith, sym, ap, ◌∙◌, get_or, subst}
-use Rattle.std.proofs.lemmas.List.{take_more, take_all, get_or_default, length-map}
+use Rattle.std.specs.Prelude.{◌≡◌, ℕ, zero, suc, ◌+◌, ◌<◌, ◌||◌, Bool, false, List, [], ◌∷◌, ◌++◌, map, length, take, replicate}
+use Rattle.std.specs.List.{list_any}
+use Rattle.std.proofs.Common.{refl, arith, sym, ap, ◌∙◌, get_or}
+use Rattle.std.proofs.lemmas.List.{take_more, length-map}
+use Rattle.std.proofs.lemmas.List.Elements.{All-get_or, All-from_recursion}
 use Rattle.std.proofs.lemmas.Option.{unwrap_or-slice_get}
 use Rattle.sw_logic.specs.declared.syntax.Formula.TheVariants.{False}
 use Rattle.sw_logic.specs.declared.structure.Structure.{Structure}
@@ -11,9 +12,10 @@ use Rattle.sw_meaning.specs.declared.protocol.Protocol.{Protocol}
 use Rattle.sw_meaning.specs.Classes.{literals, formula_of}
 use Rattle.sw_meaning.specs.Small.{IsSmall, small_template}
 use Rattle.sw_meaning.proofs.SmallCover.{class_truth}
+use Rattle.sw_breadth.specs.declared.classes.Candidate.{Candidate}
 use Rattle.sw_breadth.specs.States.{states_of}
 use Rattle.sw_breadth.specs.Tables.{table_of, join}
-use Rattle.sw_breadth.specs.Numbers.{AreBelow, any_table, literal_at, literal_tables, candidate_of}
+use Rattle.sw_breadth.specs.Numbers.{AreBelow, any_table, literal_at, literal_tables}
 use Rattle.sw_breadth.proofs.Maps.{map_constant, map_same, zip_map, any_push}
 
 pub any_none : (p : Protocol) (n : ℕ) → n ≡ length (states_of p) → replicate n false ≡ any_table p []
@@ -44,4 +46,13 @@ any_step p body i c old new t h is a b n =
 pub any_whole : (p : Protocol) (body : List ℕ) → IsSmall p → AreBelow (length (literals p.signature (small_template 1))) body → any_table p body ≡ table_of p (formula_of p.signature (small_template 1) body)
 any_whole p body small below =
     map_same (λ s. list_any (λ c. truth (world p.signature s s) (literal_at p c) []) body) (λ s. truth (world p.signature s s) (formula_of p.signature (small_template 1) body) []) (states_of p)
-        (λ s. sym (class_truth p 1 small (world p.signature s s) body below))
+    (λ s. sym (class_truth p 1 small (world p.signature s s) body below))
+
+pub same_candidate : (b d : List ℕ) (t u : List Bool) → b ≡ d → t ≡ u → ◌≡◌ {A = Candidate} (record { body = b; table = t }) (record { body = d; table = u })
+same_candidate b d t u e f = ap (λ x. make x t) e ∙ ap (make d) f
+  where
+    make : List ℕ → List Bool → Candidate
+    make x y = record { body = x; table = y }
+
+pub below_at : (n : ℕ) (body : List ℕ) (i : ℕ) → i < length body → AreBelow n body → get_or body i 0 < n
+below_at n body i h b = All-get_or (λ c. c < n) body i 0 h (All-from_recursion (λ c. c < n) body b)

@@ -1,5 +1,5 @@
 -- A list of formulas binds no variable where none of them does.
-use Rattle.std.specs.Prelude.{◌≡◌, ℕ, Bool, IsTrue, ◌↔◌, List, [], ◌∷◌, map, max}
+use Rattle.std.specs.Prelude.{◌≡◌, ℕ, Bool, IsTrue, ◌↔◌, List, [], ◌∷◌, map}
 use Rattle.std.specs.List.{AllByRecursion}
 use Rattle.std.proofs.Common.{refl, arith, rules, sym, ap, ◌∙◌}
 use Rattle.sw_logic.specs.declared.syntax.Formula.{Formula, the_lemmas}

@@ -1,11 +1,10 @@
 -- The literals of a small protocol are its switches and their negations.
-use Rattle.std.specs.Prelude.{◌≡◌, ℕ, zero, suc, ◌+◌, ◌<◌, ◌≤◌, ◌==◌, Bool, true, false, cond, List, [], ◌∷◌, ◌++◌, map, length, take}
+use Rattle.std.specs.Prelude.{◌≡◌, ℕ, ◌+◌, Bool, true, false, cond, List, [], ◌∷◌, ◌++◌, map, length}
 use Rattle.std.specs.List.{AllByRecursion, flat_map, filter, range_with_len, enumerate_from}
-use Rattle.std.proofs.Common.{refl, arith, sym, ap, ◌∙◌, rules, append-nil}
+use Rattle.std.proofs.Common.{refl, arith, ap, ◌∙◌, rules, append-nil}
 use Rattle.std.proofs.lemmas.Grind.{flat_map-append}
 use Rattle.sw_logic.specs.declared.syntax.Symbol.{Symbol}
 use Rattle.sw_logic.specs.declared.syntax.Signature.{Signature}
-use Rattle.sw_logic.specs.declared.syntax.SymbolKind.TheVariants.{Relation}
 use Rattle.sw_logic.specs.declared.syntax.Formula.{Formula, the_lemmas}
 use Rattle.sw_logic.specs.declared.syntax.Formula.TheVariants.{Holds, Equal, Not}
 use Rattle.sw_logic.specs.Truth.{binds}
@@ -21,7 +20,7 @@ pub switches_push : (n : ℕ) → switches (n + 1) ≡ switches n ++ both_signs 
 switches_push n =
     ap (flat_map (λ i. both_signs (Holds i false []))) (range_push 0 n)
     ∙ (flat_map-append (λ i. both_signs (Holds i false [])) (range_with_len 0 n) ((0 + n) ∷ [])
-        ∙ ap (λ i. switches n ++ both_signs (Holds i false [])) (omega arith))
+    ∙ ap (λ i. switches n ++ both_signs (Holds i false [])) (omega arith))
 
 flat_switch : (i : ℕ) → IsFlat (Holds i false [])
 flat_switch i = search (rules, the_lemmas)
@@ -33,7 +32,7 @@ flat_not f = search (rules, the_lemmas)
 pub switches_flat : (n : ℕ) → AllByRecursion IsFlat (switches n)
 switches_flat n =
     each-flat_map IsFlat (λ i. both_signs (Holds i false [])) (range_with_len 0 n)
-        (each-any (λ i. AllByRecursion IsFlat (both_signs (Holds i false []))) (λ i. (flat_switch i, (flat_not (Holds i false []) ∙ flat_switch i, tt))) (range_with_len 0 n))
+    (each-any (λ i. AllByRecursion IsFlat (both_signs (Holds i false []))) (λ i. (flat_switch i, (flat_not (Holds i false []) ∙ flat_switch i, tt))) (range_with_len 0 n))
 
 kept_first : (b : Bool) (x : ℕ × Symbol) (xs : List (ℕ × Symbol)) → b ≡ true → cond b (x ∷ xs) xs ≡ x ∷ xs
 kept_first b x xs e = ap (λ c. cond c (x ∷ xs) xs) e
@@ -63,5 +62,5 @@ literals_are_switches p k small =
     let first = λ (xs : List (ℕ × Symbol)). flat_map (λ s. map (Holds s.0 false) (tuples (map (terms_of sig [] 0) s.1.args))) xs in
     let none : atoms sig (small_template k) ≡ first (symbols_of sig is_relation) ++ [] = ap (λ sorts. first (symbols_of sig is_relation) ++ equalities (length sorts)) small.sorts in
     let all : first (symbols_of sig is_relation) ≡ map (λ i. Holds i false []) (range_with_len 0 (length sig.symbols)) =
-        ap first (all_relations 0 sig.symbols small.symbols) ∙ atoms_from sig 0 sig.symbols small.symbols in
+    ap first (all_relations 0 sig.symbols small.symbols) ∙ atoms_from sig 0 sig.symbols small.symbols in
     ap (flat_map both_signs) (none ∙ (append-nil (first (symbols_of sig is_relation)) ∙ all)) ∙ signs_of_map (range_with_len 0 (length sig.symbols))

@@ -3,3 +3,5 @@ pub mod Tables
 pub mod Steps
 pub mod Numbers
 pub mod Search
+pub mod Word
+pub mod Model

@@ -1,11 +1,11 @@
 -- The classes of a small protocol as numbers of literals, with their tables.
-use Rattle.std.specs.Prelude.{ℕ, zero, suc, ◌+◌, ◌<◌, ◌==◌, Bool, false, List, [], ◌∷◌, ◌++◌, map, length, unwrap_or, slice_get}
+use Rattle.std.specs.Prelude.{ℕ, zero, suc, ◌+◌, ◌<◌, ◌==◌, Bool, false, List, [], ◌∷◌, ◌++◌, map, unwrap_or, slice_get}
 use Rattle.std.specs.List.{AllByRecursion, filter, flat_map, range_with_len, list_any}
 use Rattle.sw_logic.specs.declared.syntax.Formula.{Formula}
 use Rattle.sw_logic.specs.declared.syntax.Formula.TheVariants.{Holds, False}
 use Rattle.sw_logic.specs.Truth.{truth, world}
 use Rattle.sw_meaning.specs.declared.protocol.Protocol.{Protocol}
-use Rattle.sw_meaning.specs.Classes.{both_signs, literals, formula_of}
+use Rattle.sw_meaning.specs.Classes.{both_signs, literals, formula_of, parts}
 use Rattle.sw_meaning.specs.Small.{small_template}
 use Rattle.sw_breadth.specs.declared.classes.Candidate.{Candidate}
 use Rattle.sw_breadth.specs.States.{states_of}
@@ -43,3 +43,11 @@ AreBelow n cs = AllByRecursion (λ c. c < n) cs
 -- the bodies whose least number is this one
 abbrev pub with_least : List (List ℕ) → ℕ → List (List ℕ)
 with_least bodies least = filter (λ body. unwrap_or (slice_get body 0) 0 == least) bodies
+
+-- the parts of these bodies, each with its candidates
+abbrev pub parts_of : Protocol → List (List ℕ) → ℕ → List (List Candidate)
+parts_of p bodies count = map (λ least. map (candidate_of p) (with_least bodies least)) (range_with_len 0 count)
+
+-- the candidates of all parts
+abbrev pub candidates_of : Protocol → ℕ → List (List Candidate)
+candidates_of p k = map (map (candidate_of p)) (parts p.signature (small_template k))

@@ -1,11 +1,9 @@
 //! The classes of a small protocol's template, part by part, each with the table of its formula.
-ghost use Rattle.std.specs.Prelude.{◌≡◌, ℕ, ◌+◌, ◌^◌, ◌<◌, ◌≤◌, ◌==◌, ◌++◌, ◌∷◌, map, length, IfOk, unwrap_or, slice_get};
-ghost use Rattle.std.specs.List.{AllByRecursion, filter, range_with_len};
-ghost use Rattle.sw_meaning.specs.declared.protocol.Protocol.{Protocol};
-ghost use Rattle.sw_meaning.specs.Small.{IsSmall, small_template};
-ghost use Rattle.sw_meaning.specs.Classes.{parts};
+ghost use Rattle.std.specs.Prelude.{◌≡◌, ℕ, ◌+◌, ◌^◌, ◌<◌, ◌≤◌, ◌++◌, map, length, IfOk};
+ghost use Rattle.std.specs.List.{AllByRecursion};
+ghost use Rattle.sw_meaning.specs.Small.{IsSmall};
 ghost use Rattle.sw_breadth.specs.States.{states_of};
-ghost use Rattle.sw_breadth.specs.Numbers.{rising_lists, literal_tables, candidate_of, AreBelow, with_least};
+ghost use Rattle.sw_breadth.specs.Numbers.{rising_lists, literal_tables, candidate_of, AreBelow, with_least, parts_of, candidates_of};
 
 use crate::lists::push_with_first;
 use crate::tables::join;
@@ -21,7 +19,7 @@ pub struct Candidate {
 }
 
 /// The rising lists of `size` numbers out of `count`, from `from` on, in lexicographic order.
-fn rising_lists(
+pub fn rising_lists(
     alloc: Global,
     from: u32,
     count: u32,
@@ -71,7 +69,7 @@ pub struct Literals<'a> {
 }
 
 impl Literals<'_> {
-    fn candidate(&self, alloc: Global, body: &[u32]) -> Result<Candidate, AllocError>
+    pub fn candidate(&self, alloc: Global, body: &[u32]) -> Result<Candidate, AllocError>
         requires small { IsSmall self.now.protocol.now }
         requires tables { self.now.tables.now ≡ literal_tables self.now.protocol.now }
         requires states { self.now.states ≡ length (states_of self.now.protocol.now) }
@@ -80,7 +78,11 @@ impl Literals<'_> {
     {
         let mut table = vec![in alloc; false; self.states]?;
         for literal in body {
-            table = join(alloc, table.as_slice(), self.tables[*literal as usize].as_slice())?;
+            table = join(
+                alloc,
+                table.as_slice(),
+                self.tables[*literal as usize].as_slice(),
+            )?;
         }
         Ok(Candidate {
             body: Items::from_slice(alloc, body)?,
@@ -100,5 +102,41 @@ impl Literals<'_> {
             candidates.push(self.candidate(alloc, body.as_slice())?)?;
         }
         Ok(candidates)
+    }
+
+    /// Adds the parts of the bodies of one size, by their least numbers.
+    fn push_parts(
+        &self,
+        alloc: Global,
+        bodies: &[Items<u32>],
+        all: &mut Items<Items<Candidate>>,
+    ) -> Result<(), AllocError>
+        requires small { IsSmall self.now.protocol.now }
+        requires tables { self.now.tables.now ≡ literal_tables self.now.protocol.now }
+        requires states { self.now.states ≡ length (states_of self.now.protocol.now) }
+        requires below { AllByRecursion (AreBelow (length self.now.tables.now)) bodies.now }
+        ensures { IfOk result (λ _. all.new ≡ all.old ++ parts_of self.now.protocol.now bodies.now (length self.now.tables.now)) }
+    {
+        for least in 0..self.tables.len() as u32 {
+            let part = with_least(alloc, bodies, least)?;
+            all.push(self.candidates(alloc, part.as_slice())?)?;
+        }
+        Ok(())
+    }
+
+    /// The parts of the classes of at most `literals` literals, in order.
+    pub fn parts(&self, alloc: Global, literals: u32) -> Result<Items<Items<Candidate>>, AllocError>
+        requires small { IsSmall self.now.protocol.now }
+        requires tables { self.now.tables.now ≡ literal_tables self.now.protocol.now }
+        requires states { self.now.states ≡ length (states_of self.now.protocol.now) }
+        ensures { IfOk result (λ all. all ≡ candidates_of self.now.protocol.now literals) }
+    {
+        let count = self.tables.len() as u32;
+        let mut all = Items::new(alloc);
+        for size in 0..literals {
+            let bodies = rising_lists(alloc, 0, count, size + 1)?;
+            self.push_parts(alloc, bodies.as_slice(), &mut all)?;
+        }
+        Ok(all)
     }
 }

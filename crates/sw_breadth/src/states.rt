@@ -1,5 +1,5 @@
 //! The states of a small protocol: each choice of which of its switches are on.
-ghost use Rattle.std.specs.Prelude.{◌≡◌, IfOk};
+ghost use Rattle.std.specs.Prelude.{◌≡◌, IfOk, map};
 ghost use Rattle.sw_breadth.specs.States.{patterns, structure_of};
 
 use crate::lists::push_with_first;
@@ -35,4 +35,15 @@ pub fn structure_of(alloc: Global, pattern: &[bool]) -> Result<Structure, AllocE
         sizes: Items::new(alloc),
         tables,
     })
+}
+
+/// The structures of the patterns.
+pub fn structures(alloc: Global, patterns: &[Items<bool>]) -> Result<Items<Structure>, AllocError>
+    ensures { IfOk result (λ all. all ≡ map structure_of patterns.now) }
+{
+    let mut all = Items::new(alloc);
+    for pattern in patterns {
+        all.push(structure_of(alloc, pattern.as_slice())?)?;
+    }
+    Ok(all)
 }

@@ -3,8 +3,8 @@ ghost use Rattle.std.specs.Prelude.{◌≡◌, ◌+◌, ◌≤◌, map, length, 
 ghost use Rattle.std.specs.List.{AllByRecursion, list_any};
 ghost use Rattle.sw_logic.specs.Truth.{truth, world};
 ghost use Rattle.sw_meaning.specs.Small.{IsFlat, IsFlatTransition, IsSmall};
-ghost use Rattle.sw_breadth.specs.States.{structure_of};
-ghost use Rattle.sw_breadth.specs.Steps.{rest_stays, fires, steps_to, all_true};
+ghost use Rattle.sw_breadth.specs.States.{structure_of, patterns_of};
+ghost use Rattle.sw_breadth.specs.Steps.{rest_stays, fires, steps_to, all_true, step_row, step_table};
 
 use crate::states::structure_of;
 use sqlite_items::Items;
@@ -64,7 +64,12 @@ fn fires(
 }
 
 /// Whether some transition takes the one pattern to the other.
-pub fn steps_to(alloc: Global, protocol: &Protocol, before: &[bool], after: &[bool]) -> Result<bool, AllocError>
+pub fn steps_to(
+    alloc: Global,
+    protocol: &Protocol,
+    before: &[bool],
+    after: &[bool],
+) -> Result<bool, AllocError>
     requires { AllByRecursion IsFlatTransition protocol.now.transitions }
     ensures { IfOk result (λ b. b ≡ steps_to protocol.now before.now after.now) }
 {
@@ -74,4 +79,54 @@ pub fn steps_to(alloc: Global, protocol: &Protocol, before: &[bool], after: &[bo
         }
     }
     Ok(false)
+}
+
+/// Where all of the formulas are true.
+pub fn all_table(
+    alloc: Global,
+    protocol: &Protocol,
+    formulas: &[Formula],
+    structures: &[Structure],
+) -> Result<Items<bool>, AllocError>
+    requires { AllByRecursion IsFlat formulas.now }
+    ensures { IfOk result (λ t. t ≡ map (all_true protocol.now formulas.now) structures.now) }
+{
+    let mut table = Items::new(alloc);
+    for structure in structures {
+        table.push(all_true(protocol, formulas, structure))?;
+    }
+    Ok(table)
+}
+
+fn step_row(
+    alloc: Global,
+    protocol: &Protocol,
+    patterns: &[Items<bool>],
+    before: &[bool],
+) -> Result<Items<bool>, AllocError>
+    requires { AllByRecursion IsFlatTransition protocol.now.transitions }
+    ensures { IfOk result (λ row. row ≡ map (steps_to protocol.now before.now) patterns.now) }
+{
+    let mut row = Items::new(alloc);
+    for after in patterns {
+        row.push(steps_to(alloc, protocol, before, after.as_slice())?)?;
+    }
+    Ok(row)
+}
+
+/// A row for each pattern: to which of the patterns some transition leads from it.
+pub fn step_table(
+    alloc: Global,
+    protocol: &Protocol,
+    patterns: &[Items<bool>],
+) -> Result<Items<Items<bool>>, AllocError>
+    requires flat { AllByRecursion IsFlatTransition protocol.now.transitions }
+    requires patterns { patterns.now ≡ patterns_of protocol.now }
+    ensures { IfOk result (λ rows. rows ≡ step_table protocol.now) }
+{
+    let mut rows = Items::new(alloc);
+    for before in patterns {
+        rows.push(step_row(alloc, protocol, patterns, before.as_slice())?)?;
+    }
+    Ok(rows)
 }

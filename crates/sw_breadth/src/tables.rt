@@ -26,12 +26,20 @@ pub fn leads(steps: &[Items<bool>], from: &[bool], to: &[bool]) -> bool
 pub fn meet(alloc: Global, first: &[bool], second: &[bool]) -> Result<Vec<bool>, AllocError>
     ensures { IfOk result (λ t. t.items ≡ meet first.now second.now) }
 {
-    first.iter().zip(second).map(|(a, b)| *a && *b).collect(alloc)
+    first
+        .iter()
+        .zip(second)
+        .map(|(a, b)| *a && *b)
+        .collect(alloc)
 }
 
 /// The table that is true where one of them is.
 pub fn join(alloc: Global, first: &[bool], second: &[bool]) -> Result<Vec<bool>, AllocError>
     ensures { IfOk result (λ t. t.items ≡ join first.now second.now) }
 {
-    first.iter().zip(second).map(|(a, b)| *a || *b).collect(alloc)
+    first
+        .iter()
+        .zip(second)
+        .map(|(a, b)| *a || *b)
+        .collect(alloc)
 }

@@ -1,14 +1,14 @@
 -- How many tuples there are, counted no further than a ceiling, and tables beside their symbols.
-use Rattle.std.proofs.Common.{◌≡◌, ℕ, zero, suc, ◌+◌, ◌*◌, ◌<◌, ◌≤◌, ◌∙◌, ◌↔◌, Bool, true, false, List, [], ◌∷◌, length, min, drop, get_or, drop-cons, sym, ap, refl, arith, add-one, rules, Some, None}
-use Rattle.std.specs.Prelude.{nat_eq, slice_get}
+use Rattle.std.proofs.Common.{◌≡◌, ℕ, zero, suc, ◌+◌, ◌*◌, ◌<◌, ◌≤◌, ◌∙◌, List, [], ◌∷◌, length, min, drop, get_or, drop-cons, refl, arith, add-one}
+use Rattle.std.specs.Prelude.{nat_eq}
 use Rattle.std.proofs.Math.Nat.{mul_assoc}
 use Rattle.std.proofs.lemmas.Option.{slice_get_past}
 use Rattle.std.proofs.lemmas.Bool.Decides.{nat_tests}
 use Rattle.sw_logic.specs.declared.structure.Table.{Table}
 use Rattle.sw_logic.specs.declared.syntax.Symbol.{Symbol}
 use Rattle.sw_logic.specs.Truth.{size_of}
-use Rattle.sw_logic.specs.Fits.{tuple_count, tables_fit, AgreeOn}
-use Rattle.sw_logic.proofs.Places.{min-mul, drop-none, drop-got}
+use Rattle.sw_logic.specs.Fits.{tuple_count, tables_fit}
+use Rattle.sw_logic.proofs.Places.{min-mul, drop-none}
 
 count-min : (m a s t : ℕ) → min m (min m (a * s) * t) ≡ min m (a * (s * t))
 count-min m a s t =

@@ -1,4 +1,6 @@
 mod Counting
+mod Matching
 mod Places
 mod Quantifiers
+mod Ranges
 mod Steps

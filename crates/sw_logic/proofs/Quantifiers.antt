@@ -1,33 +1,27 @@
 -- One value, or one part, settles a quantifier or a list of parts.
 use Rattle.std.proofs.Common.{◌≡◌, ℕ, zero, suc, ◌-◌, ◌<◌, ◌≤◌, Bool, true, false, List, [], ◌∷◌, ◌++◌, length, map, take, drop, get_or, refl, arith, inl, inr}
-use Rattle.std.specs.Prelude.{◌&&◌, ◌||◌}
 use Rattle.std.specs.List.{list_any}
-use Rattle.std.proofs.lemmas.Bool.{cases_lt}
+use Rattle.std.proofs.lemmas.Bool.{cases_lt, and_right, or_right}
 use Rattle.std.proofs.Math.Seq.{take-length}
-use denote.Param.Weighed.{most}
 use Rattle.sw_logic.specs.declared.syntax.Binder.{Binder}
 use Rattle.sw_logic.specs.declared.syntax.Formula.{Formula}
 use Rattle.sw_logic.specs.Truth.{size_of, all_below, any_below, for_all, exists, greatest, binds}
 
-and-false : (b : Bool) → (b && false) ≡ false
-and-false true = refl
-and-false false = refl
-
-or-true : (b : Bool) → (b || true) ≡ true
-or-true true = refl
-or-true false = refl
-
 pub all_below-false : (n v : ℕ) (p : ℕ → Bool) → v < n → p v ≡ false → all_below n p ≡ false
 all_below-false zero v p h e = absurd (omega arith)
 all_below-false (suc n) v p h e =
-    elim (cases_lt v n) [ inl below ↦ rw (all_below-false n v p below e)
-        | inr past ↦ let same : v ≡ n = omega arith in rw (← same, e) (and-false (all_below v p)) ]
+    elim (cases_lt v n) [
+      | inl below ↦ rw (all_below-false n v p below e)
+      | inr past ↦ let same : v ≡ n = omega arith in rw (← same, e) (and_right (all_below v p) false refl)
+    ]
 
 pub any_below-true : (n v : ℕ) (p : ℕ → Bool) → v < n → p v ≡ true → any_below n p ≡ true
 any_below-true zero v p h e = absurd (omega arith)
 any_below-true (suc n) v p h e =
-    elim (cases_lt v n) [ inl below ↦ rw (any_below-true n v p below e)
-        | inr past ↦ let same : v ≡ n = omega arith in rw (← same, e) (or-true (any_below v p)) ]
+    elim (cases_lt v n) [
+      | inl below ↦ rw (any_below-true n v p below e)
+      | inr past ↦ let same : v ≡ n = omega arith in rw (← same, e) (or_right (any_below v p) true refl)
+    ]
 
 take-rest : {A : Type 0} (x : A) (xs : List A) → take (length (x ∷ xs) - 1) xs ≡ xs
 take-rest x xs = let e : length (x ∷ xs) - 1 ≡ length xs = omega arith in rw e (take-length xs)
@@ -51,12 +45,6 @@ pub binds-part : (parts : List Formula) (i : ℕ) (p : Formula) → i < length p
 binds-part [] i p h e = absurd (omega arith)
 binds-part (q ∷ parts) zero p h e = rw e (omega arith)
 binds-part (q ∷ parts) (suc i) p h e = let rest = binds-part parts i p (omega arith) e in omega arith
-
--- nor is it deeper than the deepest
-pub most-at : {A : Type 0} (f : A → ℕ) (xs : List A) (i : ℕ) (x : A) → i < length xs → x ≡ get_or xs i x → f x ≤ most f xs
-most-at f [] i x h e = absurd (omega arith)
-most-at f (y ∷ xs) zero x h e = rw e (omega arith)
-most-at f (y ∷ xs) (suc i) x h e = let rest = most-at f xs i x (omega arith) e in omega arith
 
 pub list_any-map : {X Y : Type 0} (p : X → Bool) (h : Y → X) (ys : List Y) → list_any p (map h ys) ≡ list_any (λ y. p (h y)) ys
 list_any-map p h [] = refl

@@ -1,3 +1,4 @@
 pub mod Fits
+pub mod InScope
 pub mod Sorted
 pub mod Truth

@@ -8,6 +8,7 @@ use Rattle.sw_logic.specs.declared.syntax.Term.{Term}
 use Rattle.sw_logic.specs.declared.syntax.Term.TheOpen.{Term-F}
 use Rattle.sw_logic.specs.declared.syntax.Term.TheFolds.{fold-Term}
 use Rattle.sw_logic.specs.declared.syntax.Formula.{Formula}
+use Rattle.sw_logic.specs.declared.syntax.Formula.TheVariants.{ForAll, Exists}
 use Rattle.sw_logic.specs.declared.syntax.Formula.TheOpen.{Formula-F}
 use Rattle.sw_logic.specs.declared.syntax.Formula.TheFolds.{fold-Formula}
 use Rattle.sw_logic.specs.declared.structure.Table.{Table}
@@ -152,7 +153,10 @@ AreValues sizes (b ∷ bs) (v ∷ vs) = (v < size_of sizes b.sort) × AreValues 
 
 -- a universal formula is true exactly where its part is at each choice of values, and an existential one where it is at some
 pub record QuantifiersRange (w : World) (binders : List Binder) (part : Formula) (env : List ℕ) : Type 0 where
-  pub all : IsTrue (for_all w.before.sizes binders (truth w part) env)
+  pub all : IsTrue (truth w (ForAll binders part) env)
       ↔ ((vs : List ℕ) → AreValues w.before.sizes binders vs → IsTrue (truth w part (env ++ vs)))
-  pub some : IsTrue (exists w.before.sizes binders (truth w part) env)
+  pub some : IsTrue (truth w (Exists binders part) env)
       ↔ ((vs : List ℕ) × AreValues w.before.sizes binders vs × IsTrue (truth w part (env ++ vs)))
+
+abbrev pub QuantifiersAlwaysRange : Type 0
+QuantifiersAlwaysRange = (w : World) (binders : List Binder) (part : Formula) (env : List ℕ) → QuantifiersRange w binders part env

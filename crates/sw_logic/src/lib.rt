@@ -1,14 +1,23 @@
 //! Many-sorted first-order logic over finite structures: its types, and truth by recursion.
 #![tactic(auto)]
 
+mod copy;
 mod evaluate;
 mod fitting;
+mod laws;
+mod scopes;
+mod sorting;
 pub mod structure;
 pub mod syntax;
+#[cfg(test)]
+mod tests;
 pub mod variables;
 
+pub use copy::{copy_formula, copy_structure};
 pub use evaluate::{holds, holds_pair};
 pub use fitting::{fits, fits_pair};
+pub use laws::quantifiers_range;
+pub use sorting::well_sorted;
 pub use structure::{Pair, Structure, Table};
 pub use syntax::{Binder, Edge, Formula, Name, Signature, Symbol, SymbolKind, Term};
 pub use variables::{Env, Scope};

@@ -1,18 +1,18 @@
 -- The plain list is earned, and no class adds to it; so it is closed where the classes cover the template.
-use Rattle.std.specs.Prelude.{◌≡◌, ◌≢◌, ℕ, ◌+◌, Bool, true, false, IsTrue, List, [], ◌∷◌, ◌++◌, map, length, Option, Some, Contains}
+use Rattle.std.specs.Prelude.{◌≡◌, ℕ, ◌+◌, Bool, true, false, IsTrue, List, [], ◌∷◌, ◌++◌, length, Option, Some, Contains}
 use Rattle.std.specs.List.{AllByRecursion, FoldsTo}
 use Rattle.std.proofs.Common.{refl, arith, subst, sym, ap, ◌∙◌, append_assoc, append-nil, length-append}
 use Rattle.std.proofs.lemmas.List.{map-append}
 use Rattle.sw_logic.specs.declared.syntax.Formula.{Formula}
 use Rattle.sw_logic.specs.declared.structure.Structure.{Structure}
-use Rattle.sw_logic.specs.Truth.{truth, world, IsTrueIn}
+use Rattle.sw_logic.specs.Truth.{truth, world}
 use Rattle.sw_meaning.specs.declared.protocol.Protocol.{Protocol}
-use Rattle.sw_meaning.specs.Space.{Template, InSpace, InSpaceOf}
+use Rattle.sw_meaning.specs.Space.{Template, InSpaceOf}
 use Rattle.sw_meaning.specs.Inductive.{Earned, EarnedAfter, Closed, Follows, Inductive}
 use Rattle.sw_meaning.specs.Classes.{classes, parts, formula_of}
-use Rattle.sw_meaning.specs.Plain.{Until, Adds, After, Passage, Round, PlainList, formulas_of}
+use Rattle.sw_meaning.specs.Plain.{Until, Adds, After, Passage, Round, formulas_of}
 use Rattle.sw_meaning.specs.Laws.{ClassesCover, PlainIsEarned}
-use Rattle.sw_meaning.proofs.Elements.{each-both, each-weaker, each-contained, of_contained}
+use Rattle.sw_meaning.proofs.Elements.{each-weaker, each-contained, of_contained}
 use Rattle.sw_meaning.proofs.Parts.{classes_of_parts, parts_of_classes}
 
 -- one more entry
@@ -29,11 +29,11 @@ earned_push p t before (x ∷ g) f e s i n = (
 )
 
 -- what a step keeps, all of its steps keep
-until_keeps : {G : Type 0} (Once : G → G → Type 0) (P : G → Type 0) → ((g h : G) → Once g h → P g → P h) → {g h : G} → Until Once g h → P g → P h
+pub until_keeps : {G : Type 0} (Once : G → G → Type 0) (P : G → Type 0) → ((g h : G) → Once g h → P g → P h) → {g h : G} → Until Once g h → P g → P h
 until_keeps Once P k (Until.rests r) a = a
 until_keeps Once P k (Until.goes {g} {next} r ne u) a = until_keeps Once P k u (k g next r a)
 
-folds_keep : {G A : Type 0} (R : G → A → G → Type 0) (Q : A → Type 0) (P : G → Type 0) → ((g h : G) (x : A) → Q x → R g x h → P g → P h) → (xs : List A) → AllByRecursion Q xs → (g h : G) → FoldsTo R g xs h → P g → P h
+pub folds_keep : {G A : Type 0} (R : G → A → G → Type 0) (Q : A → Type 0) (P : G → Type 0) → ((g h : G) (x : A) → Q x → R g x h → P g → P h) → (xs : List A) → AllByRecursion Q xs → (g h : G) → FoldsTo R g xs h → P g → P h
 folds_keep R Q P k [] q g h f a = subst P f a
 folds_keep R Q P k (x ∷ xs) q g h f a = folds_keep R Q P k xs q.1 f.0 h f.2 (k g f.0 x q.0 f.1 a)
 

@@ -1,16 +1,16 @@
 -- Two lists that are earned and closed follow from each other, and have one word.
-use Rattle.std.specs.Prelude.{◌≡◌, true, false, is_some, List, [], ◌∷◌, ◌++◌, Option, Some, None, IsSome}
+use Rattle.std.specs.Prelude.{◌≡◌, true, false, is_some, List, [], ◌∷◌, ◌++◌, Option, None, IsSome}
 use Rattle.std.specs.List.{AllByRecursion}
 use Rattle.std.proofs.Common.{subst, sym}
 use Rattle.sw_logic.specs.declared.syntax.Formula.{Formula}
 use Rattle.sw_logic.specs.declared.structure.Structure.{Structure}
 use Rattle.sw_logic.specs.Fits.{fits}
 use Rattle.sw_meaning.specs.declared.protocol.Protocol.{Protocol}
-use Rattle.sw_meaning.specs.Runs.{AreTrueIn, Step}
+use Rattle.sw_meaning.specs.Runs.{AreTrueIn}
 use Rattle.sw_meaning.specs.Space.{Template, InSpaceOf}
-use Rattle.sw_meaning.specs.Inductive.{Earned, EarnedAfter, Closed, Follows, Inductive}
-use Rattle.sw_meaning.specs.Verdict.{Word, Verdict, Violated, SafeBy, NotSafeBy, Joins}
-use Rattle.sw_meaning.specs.Laws.{SameWord, OneMeaning, ListsHaveOneMeaning}
+use Rattle.sw_meaning.specs.Inductive.{EarnedAfter, Closed, Follows, Inductive}
+use Rattle.sw_meaning.specs.Verdict.{Word, Verdict, SafeBy, NotSafeBy, Joins}
+use Rattle.sw_meaning.specs.Laws.{SameWord, ListsHaveOneMeaning}
 use Rattle.sw_meaning.proofs.Lists.{AreTrueIn-push}
 
 -- every one of the formulas follows from the list

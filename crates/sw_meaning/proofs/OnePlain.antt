@@ -1,11 +1,11 @@
 -- There is at most one plain list, since each step of the pass leads to one list.
-use Rattle.std.specs.Prelude.{◌≡◌, ◌≢◌, ℕ, List, [], ◌∷◌, ◌++◌}
+use Rattle.std.specs.Prelude.{◌≡◌, ℕ, List, [], ◌∷◌}
 use Rattle.std.specs.List.{FoldsTo}
 use Rattle.std.proofs.Common.{sym, ◌∙◌, subst}
 use Rattle.sw_meaning.specs.declared.protocol.Protocol.{Protocol}
 use Rattle.sw_meaning.specs.Space.{Template}
 use Rattle.sw_meaning.specs.Classes.{parts}
-use Rattle.sw_meaning.specs.Plain.{Until, Adds, After, Passage, Round, PlainList}
+use Rattle.sw_meaning.specs.Plain.{Until, After, Passage, Round}
 use Rattle.sw_meaning.specs.Laws.{PlainIsOne}
 
 -- a relation that leads from each list to one list at most

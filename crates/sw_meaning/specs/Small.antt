@@ -1,5 +1,5 @@
 -- The protocols that are served by tables of truth: a few switches that go on and off.
-use Rattle.std.specs.Prelude.{◌≡◌, ℕ, ◌≤◌, true, List, [], length}
+use Rattle.std.specs.Prelude.{◌≡◌, ℕ, ◌≤◌, true, [], length}
 use Rattle.std.specs.List.{AllByRecursion}
 use Rattle.sw_logic.specs.declared.syntax.SymbolKind.TheVariants.{Relation}
 use Rattle.sw_logic.specs.declared.syntax.Symbol.{Symbol}

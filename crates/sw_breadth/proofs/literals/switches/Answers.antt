@@ -1,4 +1,4 @@
-use Rattle.std.proofs.Common.{◌≡◌, ◌++◌, ◌∷◌, [], sym, ap, ◌∙◌, append_assoc, rules}
+use Rattle.std.proofs.Common.{append_assoc, rules}
 use Rattle.sw_breadth.proofs.Switches.{switches_push}
 use Rattle.sw_breadth.proofs.literals.switches.Goals as goal
 

@@ -1,4 +1,3 @@
-use Rattle.std.proofs.Common.{rules}
 use Rattle.sw_breadth.proofs.Flat.{flat_All, flat_Any}
 use Rattle.sw_breadth.proofs.small.+flat.Goals as goal
 

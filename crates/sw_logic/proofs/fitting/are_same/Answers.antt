@@ -1,7 +1,6 @@
-use Rattle.std.proofs.Common.{◌≡◌, ◌+◌, ◌*◌, ◌<◌, ◌≤◌, ◌∙◌, min, drop, length, sym, ap, refl, arith, IsTrue, rules}
+use Rattle.std.proofs.Common.{◌≡◌, ◌∙◌, sym}
 use Rattle.std.proofs.lemmas.Slice.Eq.{slice_eq-Decides}
 use Rattle.std.specs.Cmp.{booleans_Decides}
-use Rattle.sw_logic.specs.declared.structure.Table.TheVariants.{Bits}
 use Rattle.sw_logic.proofs.fitting.are_same.Goals as goal
 
 pub returns-in-Bits-Bits : goal.returns-in-Bits-Bits

@@ -1,4 +1,4 @@
-use Rattle.std.proofs.Common.{◌≡◌, ◌+◌, ◌*◌, ◌<◌, ◌≤◌, ◌∙◌, min, drop, length, sym, ap, refl, arith, IsTrue, rules}
+use Rattle.std.proofs.Common.{◌∙◌, arith}
 use Rattle.sw_logic.proofs.Counting.{tables_fit-end}
 use Rattle.sw_logic.proofs.fitting.tables_are_of.Goals as goal
 

@@ -1,0 +1,6 @@
+-- The copies so far.
+use Rattle.std.proofs.Common.{◌≡◌, take}
+use Rattle.sw_logic.proofs.copy.copy_tables.Given as goal
+
+abbrev pub invariant-loop-table : goal.invariant-loop-table
+invariant-loop-table l = l.copies ≡ take l.table-index l.tables
