@@ -1,0 +1,10 @@
+pub mod ClassText
+pub mod Commands
+pub mod Complete
+pub mod Ends
+pub mod Names
+pub mod OneReport
+pub mod Rows
+pub mod Sound
+pub mod Steps
+pub mod Texts

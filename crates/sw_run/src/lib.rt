@@ -1,0 +1,17 @@
+//! The top of swiss: from the words of a command line and the bytes of a source to what is written.
+#![tactic(auto)]
+
+mod answer;
+pub mod laws;
+mod reader;
+mod report;
+mod told;
+mod top;
+mod words;
+
+pub use report::Report;
+pub use told::{Refusal, tell};
+pub use top::{Status, run};
+
+#[cfg(test)]
+mod tests;

@@ -1,0 +1,40 @@
+// The top call.
+ghost use Rattle.std.specs.Prelude.{map, string_bytes};
+ghost use Rattle.sw_run.specs.Ending.{Ends, Allowed, change};
+
+use crate::answer::answer;
+use crate::told::tell;
+use std::alloc::Global;
+use std::sync::Wait;
+use std::thread::Threads;
+use sw_edge::{Gate, Sink, Source};
+
+/// What the program ends with: 0 for `safe`, 10 for `open`, 11 for `violated`, 2 for words that
+/// are no command, 3 for an input that is refused, 5 for a failed read, 6 for a failed write and 7
+/// for want of memory.
+pub type Status = u8;
+
+/// Runs the command that the words name, which are given without the program's name: reads the
+/// whole source, and writes a report to `out` or the line of a refusal to `err`. The text is made
+/// whole before its first byte is written. The runtime is for the workers' threads; as yet there is
+/// one worker, which needs none.
+pub fn run<H: Threads + Wait + Sync, S: Source, O: Sink, E: Sink, G: Gate + Sync>(
+    rt: &H,
+    alloc: Global,
+    words: &Vec<String>,
+    source: &mut S,
+    out: &mut O,
+    err: &mut E,
+    gate: &G,
+) -> Status
+    ensures { Ends
+        (Allowed (map string_bytes words.now.items)
+        (change (S.left source.old) (S.left source.new) (S.faults source.old) (S.faults source.new)))
+        (change (O.held out.old) (O.held out.new) (O.faults out.old) (O.faults out.new))
+        (change (E.held err.old) (E.held err.new) (E.faults err.old) (E.faults err.new))
+        result }
+{
+    let _ = rt;
+    let told = answer(alloc, words.as_slice(), source, gate);
+    tell(&told, out, err)
+}
