@@ -4,6 +4,7 @@ pub mod Complete
 pub mod Ends
 pub mod Names
 pub mod OneReport
+pub mod OneText
 pub mod Rows
 pub mod Sound
 pub mod Steps

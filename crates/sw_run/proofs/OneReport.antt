@@ -17,6 +17,7 @@ use Rattle.sw_run.specs.Ending.{IsReport, IsPlain, word_status}
 use Rattle.sw_run.specs.Laws.{OneReport}
 use Rattle.sw_run.proofs.Commands.{same_last}
 use Rattle.sw_run.proofs.Rows.{input_told}
+use Rattle.sw_run.proofs.OneText.{texts_are_one}
 
 one_digit : (text : List ℕ) (k n : ℕ) → NamesTemplate text k → NamesTemplate text n → k ≡ n
 one_digit text k n a b =
@@ -70,9 +71,9 @@ module _ (p : Protocol) (t : Option Template) (s r : ℕ) (xs ys : List ℕ) (a 
   one_status = a.ends ∙ (ap word_status words_same ∙ sym b.ends)
 
 pub one_report : OneReport
-one_report words input a b texts tells x y =
+one_report words input a b tells x y =
     let bytes : x.bytes ≡ y.bytes = input_told input x.bytes tells.first x.read tells.before ∙ sym (input_told input y.bytes tells.first y.read tells.before) in
-    let protocols : y.protocol ≡ x.protocol = texts y.bytes y.protocol x.protocol y.spelled (subst (λ z. IsText z x.protocol) bytes x.spelled) in
+    let protocols : y.protocol ≡ x.protocol = texts_are_one y.bytes y.protocol x.protocol y.spelled (subst (λ z. IsText z x.protocol) bytes x.spelled) in
     let templates : y.template ≡ x.template = one_template words y.template x.template y.named x.named in
     let other : IsReport x.protocol x.template b.status b.text =
     subst (λ p. IsReport p x.template b.status b.text) protocols (subst (λ t. IsReport y.protocol t b.status b.text) templates y.report) in

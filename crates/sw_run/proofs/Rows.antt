@@ -1,7 +1,7 @@
 -- The rows of the table of causes: which cause gives which answer, and that they exclude each other.
-use Rattle.std.specs.Prelude.{◌≡◌, ◌⊎◌, ℕ, ◌<◌, ◌≤◌, ◌↔◌, Bool, false, IsTrue, List, ◌++◌, length, Option, Some, None, IfSome, Result, Ok, Err, IsErrAnd, MatchOption, option_map}
+use Rattle.std.specs.Prelude.{◌≡◌, ◌⊎◌, ℕ, ◌+◌, ◌<◌, ◌≤◌, ◌↔◌, Bool, false, IsTrue, List, ◌++◌, length, Option, Some, None, IfSome, Result, Ok, Err, IsErrAnd, IsErrOf, MatchOption, option_map}
 use Rattle.std.proofs.Common.{refl, arith, sym, ap, ◌∙◌, subst, inl, inr, length-append}
-use Rattle.std.proofs.lemmas.Bool.{false≢true}
+use Rattle.std.proofs.lemmas.Bool.{false≢true, cases_lt}
 use Rattle.std.proofs.lemmas.Option.{same_Some}
 use Rattle.sw_edge.specs.Edge.{Took, Rose}
 use Rattle.sw_edge.specs.declared.transfer.ReadError.{ReadError}
@@ -11,12 +11,12 @@ use Rattle.sw_meaning.specs.Small.{IsSmall, small_template}
 use Rattle.sw_meaning.specs.Space.{Template}
 use Rattle.sw_run.specs.Words.{IsCommand, IsAsked, Names}
 use Rattle.sw_run.specs.Text.{IsText}
-use Rattle.sw_run.specs.Ending.{Change, Answer, Reports, IsInput, IsTooLong, IsUnbuilt, SpellsNone, NamesNone, Allowed, refused, change, answer_of}
+use Rattle.sw_run.specs.Ending.{Change, Answer, Reports, IsInput, IsTooLong, IsWithinLimit, IsUnbuilt, SpellsNone, NamesNone, Allowed, refused, change, answer_of}
 use Rattle.sw_run.specs.Refusals.{refusal_of}
 use Rattle.sw_run.specs.Laws.{Tells, RowsExcludeEachOther}
 use Rattle.sw_run.specs.declared.report.Report.{Report}
 use Rattle.sw_run.specs.declared.told.Refusal.{Refusal}
-use Rattle.sw_run.specs.declared.told.Refusal.TheVariants.{Usage, NoMemory}
+use Rattle.sw_run.specs.declared.told.Refusal.TheVariants.{Usage, TooLong, NoMemory}
 use Rattle.sw_run.specs.declared.words.Asked.{Asked}
 use Rattle.sw_run.specs.declared.words.Asked.TheVariants.{Served, Unserved}
 use Rattle.sw_run.specs.declared.answer.TheConstants.{INPUT_LIMIT}
@@ -47,18 +47,26 @@ none_named words Unserved not is = is
 pub one_named : (words : List (List ℕ)) (asked : Asked) (k : Option ℕ) → asked ≡ Served k → IsAsked words asked → Names words (option_map small_template k)
 one_named words asked k served is = let both : IsAsked words (Served k) = subst (IsAsked words) served is in both.0
 
+pub same_error : {X : Type 0} (e : ReadError) (r : Result X ReadError) → r ≡ Err e → IsErrOf r error.TooLong → e ≡ error.TooLong
+same_error e r is long = cc
+
 -- what an error of reading is told as
 read_refused : (words : List (List ℕ)) (before now : Option (List ℕ)) (f g n : ℕ) (e : ReadError) → IsCommand words → (e ≡ error.ReadFault → Rose f g)
-    → Took before now n → (e ≡ error.TooLong → INPUT_LIMIT < n) → Allowed words (change before now f g) (refused (refusal_of e))
-read_refused words before now f g n error.ReadFault command rose took over = Allowed.read_fault command (rose refl) refl
-read_refused words before now f g n error.TooLong command rose took over = Allowed.too_long command (record { count = n; took = took; over = over refl }) refl
-read_refused words before now f g n (error.Memory e) command rose took over = Allowed.no_memory refl
+    → Took before now n → (e ≡ error.TooLong → INPUT_LIMIT < n) → (INPUT_LIMIT < n → e ≡ error.TooLong) → Allowed words (change before now f g) (refused (refusal_of e))
+read_refused words before now f g n error.ReadFault command rose took over long =
+    Allowed.read_fault command (rose refl) (record { count = n; took = took; within = within (cases_lt INPUT_LIMIT n) }) refl
+  where
+    within : (INPUT_LIMIT < n) ⊎ (n ≤ INPUT_LIMIT) → n ≤ INPUT_LIMIT
+    within (inl over) = let e : error.ReadFault ≡ error.TooLong = long over in absurd cc
+    within (inr few) = few
+read_refused words before now f g n error.TooLong command rose took over long = Allowed.too_long command (record { count = n; took = took; over = over refl }) refl
+read_refused words before now f g n (error.Memory e) command rose took over long = Allowed.no_memory refl
 
 pub read_refused_as : (words : List (List ℕ)) (before now : Option (List ℕ)) (f g n : ℕ) (e : ReadError) (r : Result Report Refusal) → IsErrAnd r (λ x. x ≡ refusal_of e)
-    → IsCommand words → (e ≡ error.ReadFault → Rose f g) → Took before now n → (e ≡ error.TooLong → INPUT_LIMIT < n) → Allowed words (change before now f g) (answer_of r)
-read_refused_as words before now f g n e (Ok r) is command rose took over = absurd is
-read_refused_as words before now f g n e (Err x) is command rose took over =
-    subst (λ y. Allowed words (change before now f g) (refused y)) (sym is) (read_refused words before now f g n e command rose took over)
+    → IsCommand words → (e ≡ error.ReadFault → Rose f g) → Took before now n → (e ≡ error.TooLong → INPUT_LIMIT < n) → (INPUT_LIMIT < n → e ≡ error.TooLong) → Allowed words (change before now f g) (answer_of r)
+read_refused_as words before now f g n e (Ok r) is command rose took over long = absurd is
+read_refused_as words before now f g n e (Err x) is command rose took over long =
+    subst (λ y. Allowed words (change before now f g) (refused y)) (sym is) (read_refused words before now f g n e command rose took over long)
 
 -- a whole input is what the source told
 pub input_told : (input : Change) (bytes first : List ℕ) → IsInput input bytes → input.before ≡ Some first → bytes ≡ first
@@ -79,7 +87,7 @@ module _ (words : List (List ℕ)) (input : Change) where
   usage_alone : (a : Answer) → (IsCommand words → ⊥) → Allowed words input a → (a ≡ refused Usage) ⊎ (a ≡ refused NoMemory)
   usage_alone a none (Allowed.report r) = absurd (none (names_command words r.template r.named))
   usage_alone a none (Allowed.usage n is) = inl is
-  usage_alone a none (Allowed.read_fault command rose is) = absurd (none command)
+  usage_alone a none (Allowed.read_fault command rose within is) = absurd (none command)
   usage_alone a none (Allowed.too_long command long is) = absurd (none command)
   usage_alone a none (Allowed.unbuilt command unbuilt is) = absurd (none command)
   usage_alone a none (Allowed.no_memory is) = inr is
@@ -99,10 +107,30 @@ module _ (words : List (List ℕ)) (input : Change) where
         | inr names ↦ names r.template r.named
       ]
 
+  -- so many bytes were taken, and no other number
+  one_count : (m n : ℕ) → Tells input → Took input.before input.now m → Took input.before input.now n → m ≡ n
+  one_count m n tells a b =
+      let first : length tells.first ≡ m + length tells.last = counted m a in
+      let second : length tells.first ≡ n + length tells.last = counted n b in
+      omega arith
+    where
+      counted : (k : ℕ) → Took input.before input.now k → length tells.first ≡ k + length tells.last
+      counted k took =
+          let is : tells.first ≡ took.0 ++ tells.last =
+          same_Some tells.first (took.0 ++ tells.last) (sym tells.before ∙ (took.2 ∙ ap (option_map (λ left. took.0 ++ left)) tells.now)) in
+          omega (arith, ap length is, length-append took.0 tells.last, took.1)
+
+  too_long_alone : (a : Answer) → IsCommand words → Tells input → IsTooLong input → Allowed words input a → (a ≡ refused TooLong) ⊎ (a ≡ refused NoMemory)
+  too_long_alone a command tells long (Allowed.report r) = absurd (not_too_long r.bytes tells r.read long)
+  too_long_alone a command tells long (Allowed.usage n is) = absurd (n command)
+  too_long_alone a command tells long (Allowed.read_fault c rose w is) = let same : w.count ≡ long.count = one_count w.count long.count tells w.took long.took in absurd (omega (arith, w.within, long.over))
+  too_long_alone a command tells long (Allowed.too_long c l is) = inl is
+  too_long_alone a command tells long (Allowed.unbuilt c u is) = absurd (not_too_long u.bytes tells u.read long)
+  too_long_alone a command tells long (Allowed.no_memory is) = inr is
+
 pub rows_exclude : RowsExcludeEachOther
 rows_exclude words input = record {
   usage = usage_alone words input;
-  report_or_too_long = λ a tells r long. not_too_long words input r.bytes tells r.read long;
+  too_long = too_long_alone words input;
   report_or_unbuilt = not_unbuilt words input;
-  too_long_or_unbuilt = λ tells long u. not_too_long words input u.bytes tells u.read long;
 }

@@ -110,11 +110,17 @@ pub record IsTooLong (input : Change) : Type 0 where
   pub took : Took input.before input.now count
   pub over : INPUT_LIMIT < count
 
+-- no more bytes were taken than may be
+pub record IsWithinLimit (input : Change) : Type 0 where
+  pub count : ℕ
+  pub took : Took input.before input.now count
+  pub within : count ≤ INPUT_LIMIT
+
 -- an answer that the words and the input allow, by the row of its cause; want of memory has none
 pub data Allowed (words : List (List ℕ)) (input : Change) (a : Answer) : Type 0 where
   report : Reports words input a → Allowed words input a
   usage : (IsCommand words → ⊥) → a ≡ refused Usage → Allowed words input a
-  read_fault : IsCommand words → Rose input.faults_before input.faults_now → a ≡ refused ReadFault → Allowed words input a
+  read_fault : IsCommand words → Rose input.faults_before input.faults_now → IsWithinLimit input → a ≡ refused ReadFault → Allowed words input a
   too_long : IsCommand words → IsTooLong input → a ≡ refused TooLong → Allowed words input a
   unbuilt : IsCommand words → IsUnbuilt words input → a ≡ refused Unbuilt → Allowed words input a
   no_memory : a ≡ refused NoMemory → Allowed words input a

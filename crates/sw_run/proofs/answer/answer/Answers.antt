@@ -2,7 +2,7 @@ use Rattle.std.specs.Prelude.{Err, option_map}
 use Rattle.std.proofs.Common.{refl, arith, ap, ◌∙◌, inl, inr}
 use Rattle.sw_meaning.specs.Small.{small_template}
 use Rattle.sw_run.specs.Ending.{Allowed}
-use Rattle.sw_run.proofs.Rows.{none_spelled, one_spelled, none_named, one_named, read_refused_as}
+use Rattle.sw_run.proofs.Rows.{none_spelled, one_spelled, none_named, one_named, read_refused_as, same_error}
 use Rattle.sw_run.proofs.answer.answer.Goals as goal
 
 pub returns-in_default : goal.returns-in_default
@@ -14,6 +14,7 @@ returns-in_err-bytes g c =
     (λ is. c.read_all.ensures.read_fault (c.in_err-bytes.was ∙ ap Err is))
     c.read_all.ensures.taken.1
     (λ is. c.read_all.ensures.taken.2.0 (c.in_err-bytes.was ∙ ap Err is))
+    (λ over. same_error c.in_err-bytes.field-0.0 c.read_all.result c.in_err-bytes.was (c.read_all.ensures.taken.2.1 over))
 
 pub returns-in_default-2 : goal.returns-in_default-2
 returns-in_default-2 g c =
