@@ -1,0 +1,3 @@
+mod ClaimsKeep
+mod Gathers
+mod Totals

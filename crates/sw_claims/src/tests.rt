@@ -1,0 +1,49 @@
+// What no clause says: that the calls succeed, and what several threads draw.
+use crate::{Claims, Drawn, fork, share_out};
+use std::alloc::AllocError;
+
+#[test]
+fn two_parts_end_and_the_first_reason_stands(rt: HostRuntime) -> Result<(), AllocError> {
+    let (claims, mut seat) = Claims::new(rt.alloc(), 2, 2)?;
+    assert_eq!(rt; claims.draw(&mut seat), Drawn::Number(0));
+    assert_eq!(rt; claims.draw(&mut seat), Drawn::Number(1));
+    assert_eq!(rt; claims.draw(&mut seat), Drawn::AllDrawn);
+    assert_eq!(rt; claims.draw(&mut seat), Drawn::AllDrawn);
+    let other = claims.split(&mut seat);
+    assert!(rt; other.is_some());
+    assert!(rt; claims.split(&mut seat).is_none());
+    assert_eq!(rt; claims.stop(&mut seat, 7), 7);
+    assert_eq!(rt; claims.stop(&mut seat, 8), 7);
+    assert_eq!(rt; claims.draw(&mut seat), Drawn::Stopped(7));
+    Ok(())
+}
+
+#[test]
+fn four_threads_draw_each_number_once(rt: HostRuntime) -> Result<(), AllocError> {
+    let lists = share_out(&rt, rt.alloc(), 1000, 4)?;
+    assert_eq!(rt; lists.len(), 4);
+    let mut numbers = Vec::new(rt.alloc());
+    for list in &lists {
+        numbers.extend_from_slice(list)?;
+    }
+    numbers.sort()?;
+    assert_eq!(rt; numbers.len(), 1000);
+    for (place, number) in numbers.iter().enumerate() {
+        assert_eq!(rt; *number, place as u64);
+    }
+    Ok(())
+}
+
+#[test]
+fn results_stand_in_the_order_of_the_seats(rt: HostRuntime) -> Result<(), AllocError> {
+    let seats = vec![in rt.alloc(); 10u64, 20, 30]?;
+    let results = fork(
+        &rt,
+        rt.alloc(),
+        seats,
+        &|place: u32, seat: u64| (place, seat),
+    )?;
+    let want = [(0, 10), (1, 20), (2, 30)];
+    assert!(rt; results.as_slice() == want.as_slice());
+    Ok(())
+}
