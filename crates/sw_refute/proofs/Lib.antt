@@ -1,0 +1,10 @@
+mod Literals
+mod Members
+mod Truths
+mod Following
+mod Propagating
+mod Accepting
+mod Verdicts
+mod Statuses
+mod Trails
+mod Ends
