@@ -1,0 +1,13 @@
+mod Negation
+mod Positions
+mod Agreement
+mod Examined
+mod Growth
+mod Models
+mod SeenLiterals
+mod Founded
+mod Resolution
+mod Learns
+mod Weights
+mod StepLists
+mod Turning

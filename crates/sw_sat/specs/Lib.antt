@@ -1,0 +1,5 @@
+pub mod Answers
+pub mod Trail
+pub mod Standing
+pub mod Analysis
+pub mod Progress

@@ -1,0 +1,15 @@
+//! A solver for sets of clauses that learns from conflicts, whose every answer is shown: an
+//! assignment, or steps that a check accepts.
+#![tactic(auto)]
+
+mod analyze;
+mod literals;
+mod propagate;
+mod solved;
+mod solver;
+#[cfg(test)]
+mod tests;
+mod trail;
+
+pub use solved::Solved;
+pub use solver::solve;
