@@ -1,10 +1,10 @@
 -- `clap` gives the options of the grammar, and an error exactly where the grammar gives none.
-use Rattle.std.specs.Prelude.{◌≡◌, ◌⊎◌, ◌==◌, ◌&&◌, ℕ, Bool, true, false, not, List, [], ◌∷◌, ◌++◌, map, Option, Some, None, fold, nat_lt}
-use Rattle.std.specs.List.{list_all, list_any, flat_map}
+use Rattle.std.specs.Prelude.{◌≡◌, ℕ, Bool, true, false, List, [], ◌∷◌, ◌++◌, Option, Some, None, fold, nat_lt}
+use Rattle.std.specs.List.{list_all, flat_map}
 use Rattle.std.specs.Option.{option_map_or}
 use Rattle.std.specs.Str.{bytes_eq}
 use Rattle.std.proofs.Common.{cond, refl, ap, sym, ◌∙◌, subst}
-use Rattle.std.proofs.lemmas.Bool.{true≢false, and_parts}
+use Rattle.std.proofs.lemmas.Bool.{and_parts}
 use Rattle.clap.specs.Lexer.{long_of, short_of}
 use Rattle.clap.specs.Walk.{Held, Row, Rule, Step, Walk, Waiting, idle, option, next, used, used_by_id, settled, reacted, walked, after_step, after_flag, long_met, option_word, word_met, value as goes_on}
 use Rattle.clap.specs.Kinds.{Kinds, or_else}
@@ -13,7 +13,7 @@ use Rattle.clap.proofs.FaultLemmas.{past}
 use Rattle.clap.specs.declared.error.kind.ErrorKind.TheVariants as kind
 use Rattle.sw_words.specs.Grammar.{Word, Given, Piece, named, value, pieces, is_fit, may_stand, is_known, has_option, options_from}
 use Rattle.sw_words.proofs.Pieces.{WordKind, word_kind, dashes}
-use Rattle.sw_words.proofs.Steps.{rule, rules, shape, row, rows_for, known_long, unknown_long, known_id, no_positional, used_once, fault_once, fault_again, at_word, long_met_is, long_fault_is, plain_met_is, plain_fault_is, name_itself}
+use Rattle.sw_words.proofs.Steps.{rule, rules, shape, rows_for, known_long, unknown_long, known_id, no_positional, used_once, fault_once, fault_again, at_word, long_met_is, long_fault_is, plain_met_is, plain_fault_is, name_itself}
 
 -- ---- what the grammar gives
 
@@ -191,11 +191,14 @@ module _ (names : List Word) where
     where
       rest : List Piece
       rest = flat_map pieces words
+
       spelled : options_from names g (flat_map pieces (word ∷ words)) ≡ options_from names g (named n ∷ value v ∷ flat_map pieces words)
       spelled = ap (λ ps. options_from names g (ps ++ flat_map pieces words)) is
+
       fault : is_known names n ≡ true → word_fault (shape names) [] false idle word h ≡ use_fault false (rule n) (v ∷ []) (rows_for g)
       fault known = known_fault idle word h n no_dashes (Some v) long known
           ∙ (past _ _ clear ∙ ap (λ rs. use_fault false (rule n) (v ∷ []) rs) rows)
+
       go : (x y : Bool) → is_known names n ≡ x → has_option g n ≡ y
           → Agrees (options_from names g (flat_map pieces (word ∷ words))) (faults_of (at_word idle h) (word ∷ words)) (last_rows (at_word idle h) (word ∷ words))
       go false y unknown e = fails (at_word idle h) word words _ (unknown_fails idle word h n no_dashes (Some v) long unknown)
@@ -221,6 +224,7 @@ module _ (names : List Word) where
     where
       spelled : options_from names g (flat_map pieces (word ∷ words)) ≡ options_from names g (named n ∷ flat_map pieces words)
       spelled = ap (λ ps. options_from names g (ps ++ flat_map pieces words)) is
+
       go : (x : Bool) → is_known names n ≡ x
           → Agrees (options_from names g (flat_map pieces (word ∷ words))) (faults_of (at_word idle h) (word ∷ words)) (last_rows (at_word idle h) (word ∷ words))
       go false unknown = fails (at_word idle h) word words _ (unknown_fails idle word h n no_dashes None long unknown)
@@ -251,11 +255,13 @@ module _ (names : List Word) where
     where
       spelled : options_from names g (named n ∷ flat_map pieces (word ∷ words)) ≡ options_from names g (named n ∷ value word ∷ flat_map pieces words)
       spelled = ap (λ ps. options_from names g (named n ∷ ps ++ flat_map pieces words)) is
+
       fault : settle_fault (rules names) false (closed rows n word k) ≡ use_fault false (rule n) (word ∷ []) (rows_for g)
       fault = closed_fault rows n word k known ∙ ap (λ rs. use_fault false (rule n) (word ∷ []) rs) are
+
       go : (y : Bool) → has_option g n ≡ y
           → Agrees (options_from names g (named n ∷ flat_map pieces (word ∷ words))) (faults_of (at_word idle (closed rows n word k)) words)
-              (last_rows (at_word idle (closed rows n word k)) words)
+          (last_rows (at_word idle (closed rows n word k)) words)
       go true twice =
           subst (λ o. Agrees o (faults_of (at_word idle (closed rows n word k)) words) (last_rows (at_word idle (closed rows n word k)) words))
           (sym (spelled ∙ again_none names g n word (flat_map pieces words) known twice))
@@ -284,6 +290,7 @@ module _ (names : List Word) where
     where
       stands : list_all may_stand words ≡ true
       stands = (and_parts (may_stand word) (list_all may_stand words) stand).1
+
       go : CleanAgrees words × OpenAgrees words → WordKind word → CleanAgrees (word ∷ words) × OpenAgrees (word ∷ words)
       go later (WordKind.plain long short no_dashes is) = (clean_plain word words no_dashes long short is, open_plain word words no_dashes long short is stands later.0)
       go later (WordKind.bare n long no_dashes is) = (clean_bare word words n no_dashes long is later.1, open_long word words n None [] no_dashes long is)

@@ -1,16 +1,15 @@
 -- What `clap` answers to a whole line of options.
-use Rattle.std.specs.Prelude.{◌≡◌, ◌⊎◌, ◌==◌, ◌&&◌, ◌||◌, ℕ, Bool, true, false, not, List, [], ◌∷◌, ◌++◌, map, Option, Some, None, fold, find, option_and_then, slice_get}
+use Rattle.std.specs.Prelude.{◌≡◌, ◌&&◌, ◌||◌, ℕ, Bool, true, false, not, List, [], ◌∷◌, map, Option, Some, None, fold, find, option_and_then, slice_get}
 use Rattle.std.specs.List.{list_all, list_any, flat_map}
 use Rattle.std.specs.Str.{bytes_eq}
 use Rattle.std.specs.Prelude.{option_map, Result, Ok, Err, IsErrAnd, IsErrOf}
 use Rattle.std.proofs.Common.{cond, refl, ap, sym, ◌∙◌, subst, ⊎_elim}
-use Rattle.std.proofs.lemmas.Bool.{true≢false}
-use Rattle.clap.specs.Walk.{Held, Row, Rule, nothing_held, walk_from, walked, settled, has_row, with_default, finished, first_of}
+use Rattle.clap.specs.Walk.{Row, Rule, nothing_held, walk_from, walked, settled, has_row, with_default, finished, first_of}
 use Rattle.clap.specs.Simple.{built, filled_from, matches_of, is_simple, HasMatchesOf}
 use Rattle.clap.specs.Takes.{is_given}
 use Rattle.clap.specs.Kinds.{Kinds, HasKind, IsAmong, or_else}
 use Rattle.clap.specs.Faults.{defaults_fault, default_fault, level_fault, check_fault, settle_fault, walk_fault, fault_of}
-use Rattle.clap.specs.Matches.{first_value, found_of}
+use Rattle.clap.specs.Matches.{found_of}
 use Rattle.clap.specs.Values.{kind_of}
 use Rattle.clap.specs.declared.parser.matches.ArgMatches.{ArgMatches}
 use Rattle.clap.specs.declared.error.Error.{Error}
@@ -18,7 +17,7 @@ use Rattle.clap.specs.declared.error.kind.ErrorKind.{ErrorKind}
 use Rattle.clap.specs.declared.error.kind.ErrorKind.TheVariants.{OutOfMemory}
 use Rattle.clap.proofs.FaultLemmas.{leaf_fault}
 use Rattle.clap.proofs.WalkLemmas.{first_value-rows}
-use Rattle.sw_words.specs.Grammar.{Word, Given, Piece, pieces, may_stand, options_from, value_of}
+use Rattle.sw_words.specs.Grammar.{Word, Given, pieces, may_stand, options_from, value_of}
 use Rattle.sw_words.specs.Lines.{option_rule, line_of, MatchesOptions, error_of}
 use Rattle.sw_words.specs.declared.commands.WordsError.{WordsError}
 use Rattle.sw_words.specs.declared.commands.WordsError.TheVariants.{Usage, Memory}

@@ -1,11 +1,11 @@
 -- What the crate `clap` sees in a word that may stand.
-use Rattle.std.specs.Prelude.{◌≡◌, ◌⊎◌, ◌==◌, ◌&&◌, ℕ, Bool, true, false, not, List, [], ◌∷◌, Option, Some, None}
+use Rattle.std.specs.Prelude.{◌≡◌, ◌==◌, ℕ, Bool, true, false, [], ◌∷◌, Some, None}
 use Rattle.std.specs.List.{list_all, list_any, before_first, after_first}
 use Rattle.std.specs.Str.{bytes_eq}
-use Rattle.std.proofs.Common.{refl, ap, sym, ◌∙◌, ⊎_elim}
-use Rattle.std.proofs.lemmas.Bool.{cases_Bool, true≢false, and_parts, not-true}
+use Rattle.std.proofs.Common.{refl, sym, ◌∙◌}
+use Rattle.std.proofs.lemmas.Bool.{true≢false, and_parts, not-true}
 use Rattle.clap.specs.Lexer.{long_of, short_of}
-use Rattle.sw_words.specs.Grammar.{Word, Piece, named, value, pieces, is_fit, is_value, is_equals, option_pieces}
+use Rattle.sw_words.specs.Grammar.{Word, named, value, pieces, is_fit, is_value, is_equals}
 
 abbrev pub dashes : Word
 dashes = 45 ∷ 45 ∷ []

@@ -1,17 +1,15 @@
 -- One step of `clap`'s walk over options that have one value each.
-use Rattle.std.specs.Prelude.{◌≡◌, ◌⊎◌, ◌==◌, ◌&&◌, ◌||◌, ℕ, Bool, true, false, not, List, [], ◌∷◌, ◌++◌, map, Option, Some, None, find, fold, cond}
-use Rattle.std.specs.List.{list_all, list_any}
+use Rattle.std.specs.Prelude.{◌≡◌, ℕ, Bool, true, false, List, [], ◌∷◌, ◌++◌, map, Option, Some, None}
 use Rattle.std.specs.Str.{bytes_eq}
-use Rattle.std.proofs.Common.{refl, ap, sym, ◌∙◌, subst, ⊎_elim, append-nil}
-use Rattle.std.proofs.lemmas.Bool.{cases_Bool, true≢false}
+use Rattle.std.proofs.Common.{refl, ap, sym, ◌∙◌, append-nil}
+use Rattle.std.proofs.lemmas.Bool.{true≢false}
 use Rattle.std.proofs.lemmas.Slice.Eq.{bytes_eq-Decides}
 use Rattle.std.proofs.lemmas.List.{map-append}
 use Rattle.clap.proofs.WalkLemmas.{list_any-map}
 use Rattle.clap.specs.Lexer.{long_of, short_of}
-use Rattle.clap.specs.Walk.{Held, Row, Rule, Step, Waiting, Walk, idle, option, positional, next, more_values, at_row, without, has_row, arg_by_id, arg_by_long, arg_by_index, used, settled, reacted, walked, word_met, subcommand_met, subcommand_or_other, long_or_other, long_word, long_met, plain_word, value as goes_on}
+use Rattle.clap.specs.Walk.{Held, Row, Rule, Waiting, Walk, idle, option, positional, more_values, at_row, without, has_row, arg_by_id, arg_by_long, arg_by_index, used, word_met, subcommand_met, subcommand_or_other, long_word, plain_word}
 use Rattle.clap.specs.Simple.{Shape, built, filled}
-use Rattle.clap.specs.Kinds.{Kinds, or_else}
-use Rattle.clap.specs.Faults.{use_fault, settle_fault, long_fault, word_fault, turn_fault, step_fault, stray_fault, other_fault, flag_word_fault}
+use Rattle.clap.specs.Faults.{use_fault, long_fault, word_fault, other_fault}
 use Rattle.clap.specs.declared.error.kind.ErrorKind.TheVariants as kind
 use Rattle.clap.specs.declared.parser.matches.ValueSource.TheVariants.{CommandLine}
 use Rattle.clap.specs.declared.builder.value_parser.Reading.TheVariants.{AsWritten}

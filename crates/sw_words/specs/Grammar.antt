@@ -1,5 +1,5 @@
 -- The grammar of the words of a command line: which command they are.
-use Rattle.std.specs.Prelude.{ℕ, ◌+◌, ◌==◌, ◌&&◌, Bool, true, false, not, List, [], ◌∷◌, ◌++◌, Option, Some, None, length, nat_lt, nat_le, find, codes, option_map, option_and_then, if◌then◌else◌}
+use Rattle.std.specs.Prelude.{ℕ, ◌==◌, ◌&&◌, Bool, true, false, not, List, [], ◌∷◌, ◌++◌, Option, Some, None, length, nat_lt, nat_le, find, codes, option_map, option_and_then, if◌then◌else◌}
 use Rattle.std.specs.List.{list_all, list_any, flat_map, before_first, after_first}
 use Rattle.std.specs.Char.{is_ascii_digit}
 use Rattle.std.specs.Str.{bytes_eq}
@@ -98,11 +98,11 @@ search_names = codes "breadth" ∷ codes "finish" ∷ codes "workers" ∷ codes 
 
 abbrev pub options_with : Given → Option Options
 options_with given = option_and_then (λ workers. option_map (λ conflicts. record {
-      breadth = value_of given (codes "breadth");
-      finish = value_of given (codes "finish");
-      workers = workers;
-      conflicts = conflicts;
-    })
+  breadth = value_of given (codes "breadth");
+  finish = value_of given (codes "finish");
+  workers = workers;
+  conflicts = conflicts;
+})
     (conflicts_of (value_of given (codes "conflicts"))))
     (workers_of (value_of given (codes "workers")))
 
@@ -114,7 +114,7 @@ abbrev pub drill_with : Word → Option Word → Option Command
 drill_with number workers = option_and_then (λ n. option_map (Drill n) (workers_of workers)) (number_within LEAST_DRILL MOST_DRILL number)
 
 abbrev pub drill_by : Word → Word → Word → Option Command
-drill_by number name workers = if bytes_eq name (codes "workers") then drill_with number (Some workers) else None
+drill_by number name workers = if bytes_eq (codes "workers") name then drill_with number (Some workers) else None
 
 -- a number, with `--workers` behind it or before it
 abbrev pub drill_of : List Piece → Option Command

@@ -1,6 +1,6 @@
 -- What the crate `clap` reads of options: the command that it is given, and what it answers.
-use Rattle.std.specs.Prelude.{◌≡◌, ℕ, Bool, true, List, [], ◌∷◌, map, Option, Some, None, codes, option_and_then}
-use Rattle.clap.specs.Words.{App, Rule, app_of, first_value, found_of, new_app, new_rule}
+use Rattle.std.specs.Prelude.{◌≡◌, true, List, [], ◌∷◌, map, Option, Some, codes, option_and_then}
+use Rattle.clap.specs.Words.{App, Rule, first_value, found_of, new_app, new_rule}
 use Rattle.clap.specs.declared.error.kind.ErrorKind.{ErrorKind}
 use Rattle.clap.specs.declared.error.kind.ErrorKind.TheVariants.{OutOfMemory}
 use Rattle.clap.specs.declared.parser.matches.ArgMatches.{ArgMatches}

@@ -1,7 +1,7 @@
 // The form of each word by itself.
 ghost use Rattle.std.specs.Prelude.{◌≡◌};
-ghost use Rattle.std.specs.List.{list_all};
-ghost use Rattle.sw_words.specs.Grammar.{is_value, is_fit, option_pieces, pieces, may_stand};
+ghost use Rattle.std.specs.List.{list_all, position};
+ghost use Rattle.sw_words.specs.Grammar.{is_equals, is_value, is_fit, option_pieces, pieces, may_stand};
 
 use crate::limits::WORD_LIMIT;
 
@@ -15,11 +15,17 @@ pub fn is_value(text: &[u8]) -> bool
     }
 }
 
+fn place_of_equals(text: &[u8]) -> Option<usize>
+    ensures { result ≡ position is_equals text.now }
+{
+    text.iter().position(|b| *b == b'=')
+}
+
 // Whether what stands behind the first `=` is a value, where there is one.
 fn attaches_value(text: &[u8]) -> bool
     ensures { result ≡ list_all is_fit (option_pieces text.now) }
 {
-    match text.iter().position(|b| *b == b'=') {
+    match place_of_equals(text) {
         Some(at) => is_value(&text[at + 1..]),
         None => true,
     }

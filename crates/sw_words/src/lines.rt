@@ -41,10 +41,7 @@ fn workers_line<'a>(alloc: Global) -> Result<clap::Command<'a>, AllocError>
 }
 
 /// The options of a search that the words give.
-pub fn search_matches<'a>(
-    alloc: Global,
-    words: &'a [String],
-) -> Result<ArgMatches<'a>, WordsError>
+pub fn search_matches<'a>(alloc: Global, words: &'a [String]) -> Result<ArgMatches<'a>, WordsError>
     requires { list_all may_stand (map string_bytes words.now) ≡ true }
     ensures given { IfOk result (MatchesOptions search_names (flat_map pieces (map string_bytes words.entry.now))) }
     ensures usage { IsErrOf result WordsError.Usage → options_from search_names [] (flat_map pieces (map string_bytes words.entry.now)) ≡ None }
@@ -55,10 +52,7 @@ pub fn search_matches<'a>(
 }
 
 /// The option `--workers`, where the words give it.
-pub fn workers_matches<'a>(
-    alloc: Global,
-    words: &'a [String],
-) -> Result<ArgMatches<'a>, WordsError>
+pub fn workers_matches<'a>(alloc: Global, words: &'a [String]) -> Result<ArgMatches<'a>, WordsError>
     requires { list_all may_stand (map string_bytes words.now) ≡ true }
     ensures given { IfOk result (MatchesOptions (codes "workers" ∷ []) (flat_map pieces (map string_bytes words.entry.now))) }
     ensures usage { IsErrOf result WordsError.Usage → options_from (codes "workers" ∷ []) [] (flat_map pieces (map string_bytes words.entry.now)) ≡ None }

@@ -96,9 +96,10 @@ fn read_space(alloc: Global, words: &[String]) -> Result<Command, WordsError>
     ensures command { IfOk result (λ c. space_of (flat_map pieces (map string_bytes words.now)) ≡ Some c) }
     ensures usage { IsErrOf result WordsError.Usage → space_of (flat_map pieces (map string_bytes words.now)) ≡ None }
 {
-    let [text] = words else {
+    if words.len() != 1 {
         return Err(WordsError::Usage);
-    };
+    }
+    let text = &words[0];
     if !is_value(text.as_bytes()) {
         return Err(WordsError::Usage);
     }
@@ -114,6 +115,12 @@ fn read_alone(command: Command, words: &[String]) -> Result<Command, WordsError>
         return Err(WordsError::Usage);
     }
     Ok(command)
+}
+
+fn all_stand(words: &[String]) -> bool
+    ensures { result ≡ list_all (λ word. may_stand (string_bytes word)) words.now }
+{
+    words.iter().all(|word| may_stand(word.as_bytes()))
 }
 
 // The command of this name with these words.
@@ -138,8 +145,10 @@ pub fn read_words(alloc: Global, words: &[String]) -> Result<Command, WordsError
     ensures command { IfOk result (λ c. command_of (map string_bytes words.now) ≡ Some c) }
     ensures usage { IsErrOf result WordsError.Usage → command_of (map string_bytes words.now) ≡ None }
 {
-    let (name, rest) = words.split_first().ok_or(WordsError::Usage)?;
-    if !rest.iter().all(|word| may_stand(word.as_bytes())) {
+    let Some((name, rest)) = words.split_first() else {
+        return Err(WordsError::Usage);
+    };
+    if !all_stand(rest) {
         return Err(WordsError::Usage);
     }
     read_command(alloc, name.as_str(), rest)
