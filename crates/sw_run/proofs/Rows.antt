@@ -105,32 +105,32 @@ names_served : (command : Option Command) (t : Option Template) → Names comman
 names_served command t names = (names.options, names.asks)
 
 module _ (command : Option Command) (input : Change) where
-  usage_alone : (a : Answer) → command ≡ None → Allowed command input a → (a ≡ refused Usage) ⊎ (a ≡ refused NoMemory)
+  usage_alone : (a : Answer) → command ≡ None → Allowed command input a → ((a ≡ refused Usage) × IsUntouched input) ⊎ (a ≡ refused NoMemory)
   usage_alone a none (Allowed.report r) = absurd (none_served command none (names_served command r.template r.named))
-  usage_alone a none (Allowed.usage n u is) = inl is
+  usage_alone a none (Allowed.usage n u is) = inl (is, u)
   usage_alone a none (Allowed.unserved c some off u is) = let bad : None ≡ Some c = sym none ∙ some in absurd cc
   usage_alone a none (Allowed.read_fault served rose within is) = absurd (none_served command none served)
   usage_alone a none (Allowed.too_long served long is) = absurd (none_served command none served)
   usage_alone a none (Allowed.unbuilt served unbuilt is) = absurd (none_served command none served)
   usage_alone a none (Allowed.no_memory is) = inr is
 
-  unserved_alone : (a : Answer) (c : Command) → command ≡ Some c → is_served c ≡ false → Allowed command input a → (a ≡ refused Unbuilt) ⊎ (a ≡ refused NoMemory)
+  unserved_alone : (a : Answer) (c : Command) → command ≡ Some c → is_served c ≡ false → Allowed command input a → ((a ≡ refused Unbuilt) × IsUntouched input) ⊎ (a ≡ refused NoMemory)
   unserved_alone a c some off (Allowed.report r) = absurd (unserved_not command c some off (names_served command r.template r.named))
   unserved_alone a c some off (Allowed.usage n u is) = let bad : None ≡ Some c = sym n ∙ some in absurd cc
-  unserved_alone a c some off (Allowed.unserved c' some' off' u is) = inl is
+  unserved_alone a c some off (Allowed.unserved c' some' off' u is) = inl (is, u)
   unserved_alone a c some off (Allowed.read_fault served rose within is) = absurd (unserved_not command c some off served)
   unserved_alone a c some off (Allowed.too_long served long is) = absurd (unserved_not command c some off served)
   unserved_alone a c some off (Allowed.unbuilt served unbuilt is) = absurd (unserved_not command c some off served)
   unserved_alone a c some off (Allowed.no_memory is) = inr is
 
-  check_usage_alone : (a : Answer) → asks_check command ≡ false → AllowedCheck command input a → (a ≡ refused Usage) ⊎ (a ≡ refused NoMemory)
-  check_usage_alone a none (AllowedCheck.usage n u is) = inl is
+  check_usage_alone : (a : Answer) → asks_check command ≡ false → AllowedCheck command input a → ((a ≡ refused Usage) × IsUntouched input) ⊎ (a ≡ refused NoMemory)
+  check_usage_alone a none (AllowedCheck.usage n u is) = inl (is, u)
   check_usage_alone a none (AllowedCheck.unserved some u is) = absurd (false≢true (sym none ∙ some))
   check_usage_alone a none (AllowedCheck.no_memory is) = inr is
 
-  check_unserved_alone : (a : Answer) → asks_check command ≡ true → AllowedCheck command input a → (a ≡ refused Unbuilt) ⊎ (a ≡ refused NoMemory)
+  check_unserved_alone : (a : Answer) → asks_check command ≡ true → AllowedCheck command input a → ((a ≡ refused Unbuilt) × IsUntouched input) ⊎ (a ≡ refused NoMemory)
   check_unserved_alone a some (AllowedCheck.usage n u is) = absurd (false≢true (sym n ∙ some))
-  check_unserved_alone a some (AllowedCheck.unserved some' u is) = inl is
+  check_unserved_alone a some (AllowedCheck.unserved some' u is) = inl (is, u)
   check_unserved_alone a some (AllowedCheck.no_memory is) = inr is
 
   -- a whole input is not too long
