@@ -25,6 +25,7 @@ abbrev pub is_value : Word → Bool
 is_value [] = false
 is_value (b ∷ rest) = not (b == 45)
 
+-- the byte `=`
 abbrev pub is_equals : ℕ → Bool
 is_equals b = b == 61
 
@@ -37,6 +38,7 @@ abbrev pub pieces : Word → List Piece
 pieces (a ∷ b ∷ c ∷ rest) = if a == 45 && b == 45 then option_pieces (c ∷ rest) else value (a ∷ b ∷ c ∷ rest) ∷ []
 pieces word = value word ∷ []
 
+-- a piece that may stand: a name, or a value that is one
 abbrev pub is_fit : Piece → Bool
 is_fit (named name) = true
 is_fit (value text) = is_value text
@@ -51,9 +53,11 @@ may_stand word = nat_le (length word) WORD_LIMIT && list_all is_fit (pieces word
 abbrev pub Given : Type 0
 Given = List (Word × Word)
 
+-- one of these names
 abbrev pub is_known : List Word → Word → Bool
 is_known names name = list_any (λ known. bytes_eq known name) names
 
+-- an option of this name was given
 abbrev pub has_option : Given → Word → Bool
 has_option given name = list_any (λ o. bytes_eq o.0 name) given
 
@@ -75,9 +79,11 @@ value_of given name = option_map (λ o. o.1) (find (λ o. bytes_eq o.0 name) giv
 abbrev pub number_of : Word → Option ℕ
 number_of text = if nat_lt 0 (length text) && nat_le (length text) MOST_DIGITS && list_all is_ascii_digit text then Some (digits_value 10 text) else None
 
+-- a number from least to most
 abbrev pub within : ℕ → ℕ → ℕ → Option ℕ
 within least most n = if nat_le least n && nat_le n most then Some n else None
 
+-- the number that the digits write, where it lies there
 abbrev pub number_within : ℕ → ℕ → Word → Option ℕ
 number_within least most text = option_and_then (within least most) (number_of text)
 
@@ -93,9 +99,11 @@ conflicts_of (Some text) = option_map (λ n. Some n) (number_within 1 MOST_CONFL
 
 -- ---- commands
 
+-- the options of a search
 abbrev pub search_names : List Word
 search_names = codes "breadth" ∷ codes "finish" ∷ codes "workers" ∷ codes "conflicts" ∷ []
 
+-- the values of the options that were given, and those of the others
 abbrev pub options_with : Given → Option Options
 options_with given = option_and_then (λ workers. option_map (λ conflicts. record {
   breadth = value_of given (codes "breadth");
@@ -110,9 +118,11 @@ options_with given = option_and_then (λ workers. option_map (λ conflicts. reco
 abbrev pub options_of : List Piece → Option Options
 options_of words = option_and_then options_with (options_from search_names [] words)
 
+-- a drill with this number, and with this text for its workers
 abbrev pub drill_with : Word → Option Word → Option Command
 drill_with number workers = option_and_then (λ n. option_map (Drill n) (workers_of workers)) (number_within LEAST_DRILL MOST_DRILL number)
 
+-- the same where the option's name is `workers`
 abbrev pub drill_by : Word → Word → Word → Option Command
 drill_by number name workers = if bytes_eq (codes "workers") name then drill_with number (Some workers) else None
 
@@ -123,6 +133,7 @@ drill_of (value number ∷ named name ∷ value workers ∷ []) = drill_by numbe
 drill_of (named name ∷ value workers ∷ value number ∷ []) = drill_by number name workers
 drill_of _ = None
 
+-- one value and nothing else
 abbrev pub space_of : List Piece → Option Command
 space_of (value text ∷ []) = Some (Space text)
 space_of _ = None
