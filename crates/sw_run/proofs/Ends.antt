@@ -4,7 +4,7 @@ use Rattle.std.proofs.Common.{refl, sym, ap, subst, append-nil}
 use Rattle.sw_edge.specs.Edge.{Gains, GainsPrefix, Rose}
 use Rattle.sw_run.specs.declared.told.Refusal.{Refusal}
 use Rattle.sw_run.specs.declared.report.Report.{Report}
-use Rattle.sw_run.specs.Ending.{Answer, Allowed, Ends, Is, change, answer_of, refusal_line, refusal_status, Change}
+use Rattle.sw_run.specs.Ending.{Answer, Ends, Is, change, answer_of, refusal_line, refusal_status, Change}
 
 gains_nothing : (held : Option (List ℕ)) → Gains held held []
 gains_nothing None = refl
@@ -42,7 +42,6 @@ module _ (told : Result Report Refusal) (out now err : Option (List ℕ)) (f g h
       (Ends.err_failed (answer_of (Err e)) refl refl refl (gains_nothing err) (part, rose))
 
 -- the one answer is allowed
-pub allowed_ends : (words : List (List ℕ)) (input out err : Change) (told : Result Report Refusal) (status : ℕ) → Allowed words input (answer_of told)
-    → Ends (Is (answer_of told)) out err status → Ends (Allowed words input) out err status
-allowed_ends words input out err told status allowed ends =
-    ends_with_more (Is (answer_of told)) (Allowed words input) out err status (λ a is. subst (Allowed words input) (sym is) allowed) ends
+pub allowed_ends : (P : Answer → Type 0) (out err : Change) (told : Result Report Refusal) (status : ℕ) → P (answer_of told) → Ends (Is (answer_of told)) out err status
+    → Ends P out err status
+allowed_ends P out err told status allowed ends = ends_with_more (Is (answer_of told)) P out err status (λ a is. subst P (sym is) allowed) ends

@@ -11,12 +11,14 @@ use Rattle.sw_meaning.specs.Report.{report_text}
 use Rattle.sw_meaning.specs.Laws.{SameWord, OneMeaning}
 use Rattle.sw_meaning.proofs.OneMeaning.{lists_have_one_meaning}
 use Rattle.sw_meaning.proofs.OnePlain.{plain_is_one}
-use Rattle.sw_run.specs.Words.{NamesTemplate, Names}
+use Rattle.sw_words.specs.declared.commands.Command.{Command}
+use Rattle.sw_words.specs.declared.commands.Options.{Options}
+use Rattle.sw_run.specs.Words.{NamesTemplate, Names, NamesBy}
 use Rattle.sw_run.specs.Text.{IsText}
 use Rattle.sw_run.specs.Ending.{IsReport, IsPlain, word_status}
 use Rattle.sw_run.specs.Laws.{OneReport}
 use Rattle.sw_run.proofs.Commands.{same_last}
-use Rattle.sw_run.proofs.Rows.{input_told}
+use Rattle.sw_run.proofs.Rows.{input_told, same_options}
 use Rattle.sw_run.proofs.OneText.{texts_are_one}
 
 one_digit : (text : List ℕ) (k n : ℕ) → NamesTemplate text k → NamesTemplate text n → k ≡ n
@@ -26,14 +28,19 @@ one_digit text k n a b =
     let digits : 48 + k ≡ 48 + n = (same_last a.blanks b.blanks (48 + k) (48 + n) ends).1 in
     omega arith
 
--- words name one template at most
-one_template : (words : List (List ℕ)) (t u : Option Template) → Names words t → Names words u → t ≡ u
-one_template words t u (Names.without is none) (Names.without is' none') = none ∙ sym none'
-one_template words t u (Names.without is none) (Names.breadth text k is' value named some) = absurd cc
-one_template words t u (Names.breadth text k is value named some) (Names.without is' none) = absurd cc
-one_template words t u (Names.breadth text k is value named some) (Names.breadth text' k' is' value' named' some') =
+-- a text names one template at most, and so do words
+one_by_text : (breadth : Option (List ℕ)) (t u : Option Template) → NamesBy breadth t → NamesBy breadth u → t ≡ u
+one_by_text breadth t u (NamesBy.without is none) (NamesBy.without is' none') = none ∙ sym none'
+one_by_text breadth t u (NamesBy.without is none) (NamesBy.literals text k is' named some) = absurd cc
+one_by_text breadth t u (NamesBy.literals text k is named some) (NamesBy.without is' none) = absurd cc
+one_by_text breadth t u (NamesBy.literals text k is named some) (NamesBy.literals text' k' is' named' some') =
     let same : text ≡ text' = cc in
     some ∙ (ap (λ n. Some (small_template n)) (one_digit text' k k' (subst (λ x. NamesTemplate x k) same named) named') ∙ sym some')
+
+one_template : (command : Option Command) (t u : Option Template) → Names command t → Names command u → t ≡ u
+one_template command t u a b =
+    let same : a.options ≡ b.options = same_options a.options b.options (sym a.asks.synth ∙ b.asks.synth) in
+    one_by_text b.options.breadth t u (subst (λ (o : Options). NamesBy o.breadth t) same a.by_text) b.by_text
 
 one_list : (p : Protocol) (t : Option Template) (g h : List Formula) → IsPlain p t g → IsPlain p t h → g ≡ h
 one_list p None g h a b = a ∙ sym b
@@ -71,10 +78,10 @@ module _ (p : Protocol) (t : Option Template) (s r : ℕ) (xs ys : List ℕ) (a 
   one_status = a.ends ∙ (ap word_status words_same ∙ sym b.ends)
 
 pub one_report : OneReport
-one_report words input a b tells x y =
+one_report command input a b tells x y =
     let bytes : x.bytes ≡ y.bytes = input_told input x.bytes tells.first x.read tells.before ∙ sym (input_told input y.bytes tells.first y.read tells.before) in
     let protocols : y.protocol ≡ x.protocol = texts_are_one y.bytes y.protocol x.protocol y.spelled (subst (λ z. IsText z x.protocol) bytes x.spelled) in
-    let templates : y.template ≡ x.template = one_template words y.template x.template y.named x.named in
+    let templates : y.template ≡ x.template = one_template command y.template x.template y.named x.named in
     let other : IsReport x.protocol x.template b.status b.text =
     subst (λ p. IsReport p x.template b.status b.text) protocols (subst (λ t. IsReport y.protocol t b.status b.text) templates y.report) in
     let statuses : a.status ≡ b.status = one_status x.protocol x.template a.status b.status a.text b.text x.report other in

@@ -1,10 +1,9 @@
 -- A text spells one protocol at most: it has one list of tokens, and the reader gives each that they declare.
-use Rattle.std.specs.Prelude.{◌≡◌, ℕ, List, [], Option, Some, Result, Ok}
+use Rattle.std.specs.Prelude.{◌≡◌, ℕ, List, [], Result, Ok}
 use Rattle.std.proofs.Common.{sym, ap, ◌∙◌}
 use Rattle.std.proofs.lemmas.Option.{same_Some}
 use Rattle.sw_scan.specs.declared.Token.{Token}
 use Rattle.sw_scan.proofs.Unique.{one_scan}
-use Rattle.sw_meaning.specs.declared.protocol.Protocol.{Protocol}
 use Rattle.sw_run.specs.Text.{words_of, empty_protocol}
 use Rattle.sw_run.specs.Reading.{read}
 use Rattle.sw_run.specs.Laws.{TextsAreOne}

@@ -1,5 +1,5 @@
 -- What a run may end with: the answers that words and input allow, and how an answer is told.
-use Rattle.std.specs.Prelude.{◌≡◌, ◌⊎◌, ◌<◌, ◌≤◌, ℕ, List, [], length, Option, Some, None, IfSome, codes, string_bytes, Result, Ok, Err}
+use Rattle.std.specs.Prelude.{◌≡◌, ◌⊎◌, ◌<◌, ◌≤◌, ℕ, true, false, List, [], length, Option, Some, None, IfSome, codes, string_bytes, Result, Ok, Err}
 use Rattle.sw_logic.specs.declared.syntax.Formula.{Formula}
 use Rattle.sw_meaning.specs.declared.protocol.Protocol.{Protocol}
 use Rattle.sw_meaning.specs.Space.{Template}
@@ -9,7 +9,8 @@ use Rattle.sw_meaning.specs.Plain.{PlainList, formulas_of}
 use Rattle.sw_meaning.specs.Verdict.{Word, Verdict}
 use Rattle.sw_meaning.specs.Report.{line, report_text}
 use Rattle.sw_edge.specs.Edge.{Gains, GainsPrefix, Rose, Took}
-use Rattle.sw_run.specs.Words.{IsCommand, Names}
+use Rattle.sw_words.specs.declared.commands.Command.{Command}
+use Rattle.sw_run.specs.Words.{IsServed, Names, is_served, asks_check}
 use Rattle.sw_run.specs.Text.{IsText}
 use Rattle.sw_run.specs.declared.answer.TheConstants.{INPUT_LIMIT}
 use Rattle.sw_run.specs.declared.told.Refusal.{Refusal}
@@ -79,14 +80,14 @@ pub record IsReport (p : Protocol) (t : Option Template) (status : ℕ) (bytes :
   pub ends : status ≡ word_status word
 
 -- a report on the protocol that the whole input spells, with the template that the words name
-pub record Reports (words : List (List ℕ)) (input : Change) (a : Answer) : Type 0 where
+pub record Reports (command : Option Command) (input : Change) (a : Answer) : Type 0 where
   pub bytes : List ℕ
   pub read : IsInput input bytes
   pub protocol : Protocol
   pub spelled : IsText bytes protocol
   pub small : IsSmall protocol
   pub template : Option Template
-  pub named : Names words template
+  pub named : Names command template
   pub report : IsReport protocol template a.status a.text
   pub line : a.line ≡ []
 
@@ -95,14 +96,14 @@ abbrev pub SpellsNone : List ℕ → Type 0
 SpellsNone bytes = (p : Protocol) → IsText bytes p → IsSmall p → ⊥
 
 -- the words name no template that is served, and do not leave it out
-abbrev pub NamesNone : List (List ℕ) → Type 0
-NamesNone words = (t : Option Template) → Names words t → ⊥
+abbrev pub NamesNone : Option Command → Type 0
+NamesNone command = (t : Option Template) → Names command t → ⊥
 
 -- the whole input was read, and it is not served
-pub record IsUnbuilt (words : List (List ℕ)) (input : Change) : Type 0 where
+pub record IsUnbuilt (command : Option Command) (input : Change) : Type 0 where
   pub bytes : List ℕ
   pub read : IsInput input bytes
-  pub cause : SpellsNone bytes ⊎ NamesNone words
+  pub cause : SpellsNone bytes ⊎ NamesNone command
 
 -- too many bytes were taken
 pub record IsTooLong (input : Change) : Type 0 where
@@ -116,14 +117,27 @@ pub record IsWithinLimit (input : Change) : Type 0 where
   pub took : Took input.before input.now count
   pub within : count ≤ INPUT_LIMIT
 
--- an answer that the words and the input allow, by the row of its cause; want of memory has none
-pub data Allowed (words : List (List ℕ)) (input : Change) (a : Answer) : Type 0 where
-  report : Reports words input a → Allowed words input a
-  usage : (IsCommand words → ⊥) → a ≡ refused Usage → Allowed words input a
-  read_fault : IsCommand words → Rose input.faults_before input.faults_now → IsWithinLimit input → a ≡ refused ReadFault → Allowed words input a
-  too_long : IsCommand words → IsTooLong input → a ≡ refused TooLong → Allowed words input a
-  unbuilt : IsCommand words → IsUnbuilt words input → a ≡ refused Unbuilt → Allowed words input a
-  no_memory : a ≡ refused NoMemory → Allowed words input a
+-- nothing was taken from the source, and no fault rose
+pub record IsUntouched (input : Change) : Type 0 where
+  pub bytes : input.now ≡ input.before
+  pub faults : input.faults_now ≡ input.faults_before
+
+-- an answer that the words and the input allow, by the row of its cause; want of memory has none.
+-- The words are given by the command that they are, if they are one
+pub data Allowed (command : Option Command) (input : Change) (a : Answer) : Type 0 where
+  report : Reports command input a → Allowed command input a
+  usage : command ≡ None → IsUntouched input → a ≡ refused Usage → Allowed command input a
+  unserved : (c : Command) → command ≡ Some c → is_served c ≡ false → IsUntouched input → a ≡ refused Unbuilt → Allowed command input a
+  read_fault : IsServed command → Rose input.faults_before input.faults_now → IsWithinLimit input → a ≡ refused ReadFault → Allowed command input a
+  too_long : IsServed command → IsTooLong input → a ≡ refused TooLong → Allowed command input a
+  unbuilt : IsServed command → IsUnbuilt command input → a ≡ refused Unbuilt → Allowed command input a
+  no_memory : a ≡ refused NoMemory → Allowed command input a
+
+-- the same of the call that serves `space`, `print` and `check` alone, of which none is served yet
+pub data AllowedCheck (command : Option Command) (input : Change) (a : Answer) : Type 0 where
+  usage : asks_check command ≡ false → IsUntouched input → a ≡ refused Usage → AllowedCheck command input a
+  unserved : asks_check command ≡ true → IsUntouched input → a ≡ refused Unbuilt → AllowedCheck command input a
+  no_memory : a ≡ refused NoMemory → AllowedCheck command input a
 
 -- the sink gained these bytes
 abbrev pub Gained : Change → List ℕ → Type 0

@@ -1,22 +1,42 @@
--- Which words are a command, and the template that they name.
-use Rattle.std.specs.Prelude.{◌≡◌, ◌≢◌, ◌||◌, ◌==◌, ℕ, ◌+◌, ◌<◌, ◌≤◌, Bool, true, List, [], ◌∷◌, ◌++◌, length, slice_get, Option, Some, None, IfSome, option_map, codes}
+-- What a command asks for, and the template that it names.
+use Rattle.std.specs.Prelude.{◌≡◌, ◌||◌, ◌==◌, ◌&&◌, ℕ, ◌+◌, ◌<◌, ◌≤◌, Bool, true, false, List, [], ◌∷◌, ◌++◌, length, Option, Some, None, IfSome, is_none, option_map, codes}
 use Rattle.std.specs.List.{list_all}
+use Rattle.std.specs.Option.{option_map_or}
 use Rattle.sw_meaning.specs.Space.{Template}
 use Rattle.sw_meaning.specs.Small.{small_template}
-use Rattle.sw_run.specs.declared.words.TheConstants.{WORD_LIMIT}
+use Rattle.sw_words.specs.declared.commands.Command.{Command}
+use Rattle.sw_words.specs.declared.commands.Command.TheVariants.{Synth, Space, Print, Check}
+use Rattle.sw_words.specs.declared.commands.Options.{Options}
 use Rattle.sw_run.specs.declared.words.Asked.{Asked}
 use Rattle.sw_run.specs.declared.words.Asked.TheVariants.{Served, Unserved}
 
--- an option's value: not empty, not too long, and not beginning with a hyphen
-pub record IsValue (text : List ℕ) : Type 0 where
-  pub some : 0 < length text
-  pub within : length text ≤ WORD_LIMIT
-  pub plain : slice_get text 0 ≢ Some 45
+-- a search that is served: one worker, no template to finish with, no budget of conflicts
+abbrev pub is_plain : Options → Bool
+is_plain options = options.workers == 1 && is_none options.finish && is_none options.conflicts
 
--- `synth`, or `synth --breadth` and a value
-pub data IsCommand (words : List (List ℕ)) : Type 0 where
-  bare : words ≡ codes "synth" ∷ [] → IsCommand words
-  breadth : (text : List ℕ) → words ≡ codes "synth" ∷ codes "--breadth" ∷ text ∷ [] → IsValue text → IsCommand words
+-- a command that is served, as far as the words decide it
+abbrev pub is_served : Command → Bool
+is_served (Synth options) = is_plain options
+is_served _ = false
+
+-- the words ask for this search, and it is served; `None` stands for words that are no command
+pub record Asks (command : Option Command) (options : Options) : Type 0 where
+  pub synth : command ≡ Some (Synth options)
+  pub plain : is_plain options ≡ true
+
+abbrev pub IsServed : Option Command → Type 0
+IsServed command = (options : Options) × Asks command options
+
+-- the commands that need no workers
+abbrev pub is_check : Command → Bool
+is_check (Space text) = true
+is_check Print = true
+is_check Check = true
+is_check _ = false
+
+-- the words are one of those commands
+abbrev pub asks_check : Option Command → Bool
+asks_check command = option_map_or is_check command false
 
 -- space, tab, carriage return or line feed
 abbrev pub is_blank : ℕ → Bool
@@ -31,13 +51,18 @@ pub record NamesTemplate (text : List ℕ) (k : ℕ) : Type 0 where
   pub least : 1 ≤ k
   pub most : k ≤ 3
 
--- the words name this breadth template, or none
-pub data Names (words : List (List ℕ)) (t : Option Template) : Type 0 where
-  without : words ≡ codes "synth" ∷ [] → t ≡ None → Names words t
-  breadth : (text : List ℕ) (k : ℕ) → words ≡ codes "synth" ∷ codes "--breadth" ∷ text ∷ [] → IsValue text
-      → NamesTemplate text k → t ≡ Some (small_template k) → Names words t
+-- the text of `--breadth` names this template, or there is neither
+pub data NamesBy (breadth : Option (List ℕ)) (t : Option Template) : Type 0 where
+  without : breadth ≡ None → t ≡ None → NamesBy breadth t
+  literals : (text : List ℕ) (k : ℕ) → breadth ≡ Some text → NamesTemplate text k → t ≡ Some (small_template k) → NamesBy breadth t
 
--- what words that are a command ask for: a template that they name, or one that is not served
-abbrev pub IsAsked : List (List ℕ) → Asked → Type 0
-IsAsked words (Served k) = Names words (option_map small_template k) × IfSome k (λ n. n ≤ 3)
-IsAsked words Unserved = (t : Option Template) → Names words t → ⊥
+-- the words ask for a search that is served, with this breadth template or without one
+pub record Names (command : Option Command) (t : Option Template) : Type 0 where
+  pub options : Options
+  pub asks : Asks command options
+  pub by_text : NamesBy options.breadth t
+
+-- what the text of `--breadth` asks for: a template that it names, or one that is not served
+abbrev pub IsAsked : Option (List ℕ) → Asked → Type 0
+IsAsked breadth (Served k) = NamesBy breadth (option_map small_template k) × IfSome k (λ n. n ≤ 3)
+IsAsked breadth Unserved = (t : Option Template) → NamesBy breadth t → ⊥

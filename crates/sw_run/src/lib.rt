@@ -11,7 +11,7 @@ mod words;
 
 pub use report::Report;
 pub use told::{Refusal, tell};
-pub use top::{Status, run};
+pub use top::{Status, run, run_check};
 
 #[cfg(test)]
 mod tests;

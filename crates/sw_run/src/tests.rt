@@ -1,5 +1,5 @@
 // What whole runs write, over a source and sinks in memory.
-use crate::run;
+use crate::{run, run_check};
 use std::alloc::Global;
 use std::process::Abort;
 use std::sync::Wait;
@@ -175,20 +175,90 @@ fn what_is_not_served_is_refused(rt: HostRuntime) -> Result<(), Fail> {
 fn words_that_are_no_command_are_told_the_usage(rt: HostRuntime) -> Result<(), Fail> {
     let alloc = rt.alloc();
     ends_with(&rt, alloc, &[], SWAP, 2, "", USAGE)?;
-    ends_with(&rt, alloc, &["print"], SWAP, 2, "", USAGE)?;
-    ends_with(&rt, alloc, &["synth", "--breadth"], SWAP, 2, "", USAGE)?;
-    ends_with(&rt, alloc, &["synth", "--breadth", ""], SWAP, 2, "", USAGE)?;
-    ends_with(
-        &rt,
-        alloc,
-        &["synth", "--breadth", "-1"],
-        SWAP,
-        2,
-        "",
-        USAGE,
-    )?;
+    let no_workers = ["synth", "--workers", "0"];
+    ends_with(&rt, alloc, &no_workers, SWAP, 2, "", USAGE)?;
+    ends_with(&rt, alloc, &["synth", "--finish"], SWAP, 2, "", USAGE)?;
+    let twice = ["synth", "--workers", "2", "--workers", "2"];
+    ends_with(&rt, alloc, &twice, SWAP, 2, "", USAGE)?;
+    ends_with(&rt, alloc, &["drill", "2"], SWAP, 2, "", USAGE)?;
     let more = ["synth", "--breadth", "literals 2", "more"];
     ends_with(&rt, alloc, &more, SWAP, 2, "", USAGE)
+}
+
+#[test]
+fn one_worker_and_a_value_behind_an_equals_sign_are_served(rt: HostRuntime) -> Result<(), Fail> {
+    ends_with(
+        &rt,
+        rt.alloc(),
+        &["synth", "--workers=1", "--breadth=literals 2"],
+        SWAP,
+        0,
+        SWAP_REPORT,
+        "",
+    )
+}
+
+// A run of these words on a source that fails at the first read is refused as not served.
+fn is_not_served<R: Threads + Wait + Sync + Abort>(
+    rt: &R,
+    alloc: Global,
+    words: &[&str],
+) -> Result<(), Fail> {
+    let ended = run_on(rt, alloc, words, Vec::new(alloc), &[Turn::Fail], &[])?;
+    assert_eq!(rt; ended.status, 3);
+    assert_eq!(rt; ended.out.len(), 0);
+    assert_eq!(rt; ended.err.as_slice(), b"swiss: Unbuilt\n".as_slice());
+    Ok(())
+}
+
+#[test]
+fn what_the_words_show_not_to_be_served_is_refused_before_reading(
+    rt: HostRuntime,
+) -> Result<(), Fail> {
+    let alloc = rt.alloc();
+    is_not_served(&rt, alloc, &["certify"])?;
+    is_not_served(&rt, alloc, &["certify", "--breadth", "literals 2"])?;
+    is_not_served(&rt, alloc, &["space", "literals 2"])?;
+    is_not_served(&rt, alloc, &["print"])?;
+    is_not_served(&rt, alloc, &["check"])?;
+    is_not_served(&rt, alloc, &["drill", "6"])?;
+    is_not_served(&rt, alloc, &["synth", "--finish", "literals 1"])?;
+    is_not_served(&rt, alloc, &["synth", "--conflicts", "1"])?;
+    is_not_served(&rt, alloc, &["synth", "--workers", "2"])
+}
+
+// A run of these words by the call that needs no threads, on a source that fails at the first read.
+fn check_ends_with<R: Abort>(
+    rt: &R,
+    alloc: Global,
+    words: &[&str],
+    status: u8,
+    line: &str,
+) -> Result<(), Fail> {
+    let mut texts = Vec::new(alloc);
+    for word in words {
+        texts.push(String::from_str(alloc, word)?)?;
+    }
+    let mut source = MemSource::new(Vec::new(alloc), [Turn::Fail].to_vec(alloc)?);
+    let mut out = MemSink::new(alloc, 1000, Vec::new(alloc))?;
+    let mut err = MemSink::new(alloc, 1000, Vec::new(alloc))?;
+    let ended = run_check(alloc, &texts, &mut source, &mut out, &mut err);
+    assert_eq!(rt; ended, status);
+    assert_eq!(rt; out.bytes().len(), 0);
+    assert_eq!(rt; err.bytes().as_slice(), line.as_bytes());
+    Ok(())
+}
+
+#[test]
+fn the_call_without_threads_has_three_commands(rt: HostRuntime) -> Result<(), Fail> {
+    let alloc = rt.alloc();
+    check_ends_with(&rt, alloc, &["print"], 3, "swiss: Unbuilt\n")?;
+    check_ends_with(&rt, alloc, &["check"], 3, "swiss: Unbuilt\n")?;
+    check_ends_with(&rt, alloc, &["space", "literals 2"], 3, "swiss: Unbuilt\n")?;
+    check_ends_with(&rt, alloc, &["space"], 2, USAGE)?;
+    check_ends_with(&rt, alloc, &["synth"], 2, USAGE)?;
+    check_ends_with(&rt, alloc, &["drill", "6"], 2, USAGE)?;
+    check_ends_with(&rt, alloc, &[], 2, USAGE)
 }
 
 #[test]

@@ -5,6 +5,7 @@ ghost use Rattle.sw_run.specs.Ending.{refusal_status, refusal_line, answer_of, I
 use crate::report::Report;
 use std::alloc::AllocError;
 use sw_edge::{ReadError, Sink, write_all};
+use sw_words::WordsError;
 
 /// The status of a run whose text or line could not be written.
 const WRITE_FAULT: u8 = 6;
@@ -26,6 +27,19 @@ impl From<AllocError> for Refusal {
 
     fn from(_error: AllocError) -> Refusal {
         Refusal::NoMemory
+    }
+}
+
+impl From<WordsError> for Refusal {
+    ghost use Rattle.sw_run.specs.Refusals.{words_refusal};
+
+    ghost from_gives = { λ error refusal. refusal ≡ words_refusal error };
+
+    fn from(error: WordsError) -> Refusal {
+        match error {
+            WordsError::Usage => Refusal::Usage,
+            WordsError::Memory => Refusal::NoMemory,
+        }
     }
 }
 

@@ -1,27 +1,17 @@
-// What the words of a command line ask for.
-ghost use Rattle.std.specs.Prelude.{◌≡◌, ◌↔◌, ℕ, IsTrue, IfSome, IfNone, OnSome, map, string_bytes};
+// What the options of a search ask for.
+ghost use Rattle.std.specs.Prelude.{◌≡◌, ◌↔◌, ℕ, IfSome, IfNone};
 ghost use Rattle.std.specs.List.{list_all};
-ghost use Rattle.sw_run.specs.Words.{is_blank, IsValue, NamesTemplate, IsCommand, IsAsked};
+ghost use Rattle.sw_run.specs.Words.{is_blank, is_plain, NamesTemplate, IsAsked};
 
-/// The most bytes of an option's value.
-pub const WORD_LIMIT: usize = 4096;
+use sw_words::Options;
 
-/// What a command asks for.
+/// What the text of `--breadth` asks for.
 #[derive(Clone, Copy, Debug, PartialEq, Eq)]
 pub enum Asked {
-    /// A run with the template `literals k`, by its k, or without a template.
+    /// The template `literals k`, by its k, or no template.
     Served(Option<u32>),
-    /// A run with a template that is not served.
+    /// A template that is not served.
     Unserved,
-}
-
-fn is_value(text: &[u8]) -> bool
-    ensures { IsTrue result ↔ IsValue text.now }
-{
-    match text.first() {
-        Some(first) => *first != b'-' && text.len() <= WORD_LIMIT,
-        None => false,
-    }
 }
 
 fn are_blanks(bytes: &[u8]) -> bool
@@ -48,25 +38,22 @@ fn literals_of(text: &[u8]) -> Option<u32>
     }
 }
 
-/// What the words, without the program's name, ask for, where they are a command.
-pub fn read_words(words: &[String]) -> Option<Asked>
-    ensures usage { IfNone result (IsCommand (map string_bytes words.now) → ⊥) }
-    ensures command { OnSome result (IsCommand (map string_bytes words.now)) }
-    ensures asked { IfSome result (IsAsked (map string_bytes words.now)) }
+/// Whether a search with these options is served, as far as the words decide it.
+pub fn is_plain(options: &Options) -> bool
+    ensures { result ≡ is_plain options.now }
 {
-    let (command, options) = words.split_first()?;
-    if command.as_str() != "synth" {
-        return None;
-    }
-    let Some((option, values)) = options.split_first() else {
-        return Some(Asked::Served(None));
+    options.workers == 1 && options.finish.is_none() && options.conflicts.is_none()
+}
+
+/// The breadth template that the options ask for.
+pub fn asked_by(options: &Options) -> Asked
+    ensures { IsAsked options.now.breadth result }
+{
+    let Some(text) = &options.breadth else {
+        return Asked::Served(None);
     };
-    let (text, others) = values.split_first()?;
-    if option.as_str() != "--breadth" || !is_value(text.as_bytes()) || !others.is_empty() {
-        return None;
-    }
-    match literals_of(text.as_bytes()) {
-        Some(literals) => Some(Asked::Served(Some(literals))),
-        None => Some(Asked::Unserved),
+    match literals_of(text.as_str().as_bytes()) {
+        Some(literals) => Asked::Served(Some(literals)),
+        None => Asked::Unserved,
     }
 }

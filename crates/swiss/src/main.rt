@@ -7,7 +7,7 @@ use std::env;
 use std::io::ErrorKind;
 use std::process::ExitCode;
 use sw_edge::{OpenGate, StdSink, StdSource};
-use sw_run::{Refusal, run, tell};
+use sw_run::{Refusal, run, run_check, tell};
 
 // The words after the program's name. One that is not UTF-8 is in no command, and no words are none
 // either, so these stand for it.
@@ -19,11 +19,22 @@ fn words(rt: &HostRuntime) -> Result<Vec<String>, AllocError> {
     }
 }
 
+// Whether the first word is a command that needs no workers.
+fn names_check(words: &[String]) -> bool {
+    match words.first() {
+        Some(first) => matches!(first.as_str(), "space" | "print" | "check"),
+        None => false,
+    }
+}
+
 fn main(rt: HostRuntime) -> ExitCode {
     let mut source = StdSource::new(rt.stdin());
     let mut out = StdSink::new(rt.stdout());
     let mut err = StdSink::new(rt.stderr());
     let status = match words(&rt) {
+        Ok(words) if names_check(words.as_slice()) => {
+            run_check(rt.alloc(), &words, &mut source, &mut out, &mut err)
+        }
         Ok(words) => run(
             &rt,
             rt.alloc(),

@@ -1,52 +1,13 @@
-use Rattle.std.specs.Prelude.{Err, option_map}
-use Rattle.std.proofs.Common.{refl, arith, ap, ◌∙◌, inl, inr}
-use Rattle.sw_meaning.specs.Small.{small_template}
+use Rattle.std.proofs.Common.{refl}
 use Rattle.sw_run.specs.Ending.{Allowed}
-use Rattle.sw_run.proofs.Rows.{none_spelled, one_spelled, none_named, one_named, read_refused_as, same_error}
+use Rattle.sw_run.proofs.Rows.{check_unserved, other_is_check, unserved_kind}
 use Rattle.sw_run.proofs.answer.answer.Goals as goal
 
-pub returns-in_default : goal.returns-in_default
-returns-in_default g c = Allowed.usage c.in_default.ensures.usage refl
-
-pub returns-in_err-bytes : goal.returns-in_err-bytes
-returns-in_err-bytes g c =
-    read_refused_as _ _ _ _ _ c.read_all.ensures.taken.0 c.in_err-bytes.field-0.0 c.from_residual.result c.from_residual.ensures.1 c.in-Some.ensures.command
-    (λ is. c.read_all.ensures.read_fault (c.in_err-bytes.was ∙ ap Err is))
-    c.read_all.ensures.taken.1
-    (λ is. c.read_all.ensures.taken.2.0 (c.in_err-bytes.was ∙ ap Err is))
-    (λ over. same_error c.in_err-bytes.field-0.0 c.read_all.result c.in_err-bytes.was (c.read_all.ensures.taken.2.1 over))
-
-pub returns-in_default-2 : goal.returns-in_default-2
-returns-in_default-2 g c =
-    Allowed.unbuilt c.in-Some.ensures.command
-    (record {
-      bytes = c.in_ok-bytes.bytes.items;
-      read = record { all = c.in_ok-bytes.ensures.all; ended = c.in_ok-bytes.ensures.end; within = omega (arith, c.in_ok-bytes.bytes.ok.0, c.in_ok-bytes.ensures.within) };
-      cause = inl (none_spelled c.in_ok-protocol.field-0 c.as_slice.result.now c.in_ok-bytes.bytes.items c.in_default-2.is c.as_slice.ensures.value c.in_ok-protocol.ensures);
-    })
-    refl
-
-pub returns-in_default-asked : goal.returns-in_default-asked
-returns-in_default-asked g c =
-    Allowed.unbuilt c.in-Some.ensures.command
-    (record {
-      bytes = c.in_ok-bytes.bytes.items;
-      read = record { all = c.in_ok-bytes.ensures.all; ended = c.in_ok-bytes.ensures.end; within = omega (arith, c.in_ok-bytes.bytes.ok.0, c.in_ok-bytes.ensures.within) };
-      cause = inr (none_named _ c.in-Some.asked c.in_default-asked.not-Served c.in-Some.ensures.asked);
-    })
-    refl
+pub returns-in-Certify : goal.returns-in-Certify
+returns-in-Certify g c =
+    Allowed.unserved c.in_ok-command.command c.in_ok-command.ensures.command (unserved_kind c.in_ok-command.command c.in-Certify.is) (record { bytes = refl; faults = refl }) refl
 
 pub returns : goal.returns
 returns g c =
-    let found = one_spelled c.in_ok-protocol.field-0 c.in-Some-2.protocol c.as_slice.result.now c.in_ok-bytes.bytes.items c.in-Some-2.is c.as_slice.ensures.value c.in_ok-protocol.ensures in
-    Allowed.report (record {
-      bytes = c.in_ok-bytes.bytes.items;
-      read = record { all = c.in_ok-bytes.ensures.all; ended = c.in_ok-bytes.ensures.end; within = omega (arith, c.in_ok-bytes.bytes.ok.0, c.in_ok-bytes.ensures.within) };
-      protocol = c.in-Some-2.protocol;
-      spelled = found.0;
-      small = found.1;
-      template = option_map small_template c.in-Served.literals;
-      named = one_named _ c.in-Some.asked c.in-Served.literals c.in-Served.is c.in-Some.ensures.asked;
-      report = c.in_ok-report.ensures;
-      line = refl;
-    })
+    let kind = other_is_check c.in_ok-command.command c.in_default.not-Synth c.in_default.not-Certify c.in_default.not-Drill in
+    check_unserved _ c.in_ok-command.command _ _ c.in_ok-command.ensures.command kind.0 kind.1 c.check.ensures (record { bytes = refl; faults = refl })

@@ -1,0 +1,7 @@
+pub mod Pieces
+pub mod Steps
+pub mod Bridge
+pub mod Digits
+pub mod Equals
+pub mod Drills
+pub mod Matched
