@@ -44,7 +44,7 @@ pub record TermsRead (base : Context) (s : State) (ms : List Mark) (fs : List Fr
 pub record Takes (s : State) (fs : List Frame) : Type 0 where
   pub name : (w : Word) → step_by s.last s.stack w Sign.Name ≡ Some (record { stack = fs; last = Last.Name w })
 
-name_acts : (fs : List Frame) (w : Word) (sign : Sign) → follows_term sign ≡ true → after_name fs w sign ≡ after_term fs (term.Applied w false []) sign
+name_acts : (fs : List Frame) (w : Word) (sign : Sign) → follows_term sign ≡ true → after_name fs w sign ≡ after_term fs (term.Named w false) sign
 name_acts fs w Sign.Comma h = refl
 name_acts fs w Sign.RightRound h = refl
 name_acts fs w Sign.Equal h = refl
@@ -55,7 +55,7 @@ name_acts fs w Sign.Arrow h = refl
 name_acts fs w Sign.DoubleArrow h = refl
 name_acts fs w _ h = cc
 
-primed_acts : (fs : List Frame) (w : Word) (sign : Sign) → follows_term sign ≡ true → after_primed fs w sign ≡ after_term fs (term.Applied w true []) sign
+primed_acts : (fs : List Frame) (w : Word) (sign : Sign) → follows_term sign ≡ true → after_primed fs w sign ≡ after_term fs (term.Named w true) sign
 primed_acts fs w Sign.Comma h = refl
 primed_acts fs w Sign.RightRound h = refl
 primed_acts fs w Sign.Equal h = refl
@@ -66,7 +66,7 @@ primed_acts fs w Sign.Arrow h = refl
 primed_acts fs w Sign.DoubleArrow h = refl
 primed_acts fs w _ h = cc
 
-pub head_acts : (fs : List Frame) (w : Word) (p : Bool) → TermActs (after_head fs w p) fs (term.Applied w p [])
+pub head_acts : (fs : List Frame) (w : Word) (p : Bool) → TermActs (after_head fs w p) fs (term.Named w p)
 head_acts fs w false = record { steps = λ v sign h. name_acts fs w sign h; ends = refl }
 head_acts fs w true = record { steps = λ v sign h. primed_acts fs w sign h; ends = refl }
 

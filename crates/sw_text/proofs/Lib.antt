@@ -6,3 +6,5 @@ pub mod Viable
 pub mod Greatest
 pub mod Answering
 pub mod OneAnswer
+pub mod Breaking
+pub mod Folding

@@ -425,7 +425,7 @@ module _ (base : Context) (all rest : List Mark) (m : Mark) where
   term_keeps (Frame.Body u bs ∷ fs) t sign h = atom_keeps (Frame.Body u bs ∷ fs) t sign h
   term_keeps (Frame.Bracket ∷ fs) t sign h = atom_keeps (Frame.Bracket ∷ fs) t sign h
 
-  bare_termed : (fs : List Frame) (w : Word) (p : Bool) {after : List Mark} → Named base all fs w p after → Termed base all fs (term.Applied w p []) after
+  bare_termed : (fs : List Frame) (w : Word) (p : Bool) {after : List Mark} → Named base all fs w p after → Termed base all fs (term.Named w p) after
   bare_termed fs w p h = record { from = h.from; before = h.before; is = IsTerm.bare h.is }
 
   primed_head : (fs : List Frame) (w : Word) {from : List Mark} → IsHead from w false (m ∷ rest) → Is Sign.Prime no_loads m → IsHead from w true rest
@@ -434,11 +434,11 @@ module _ (base : Context) (all rest : List Mark) (m : Mark) where
   name_keeps : (fs : List Frame) (w : Word) (sign : Sign) → Named base all fs w false (m ∷ rest) → Keeps base all rest m sign (after_name fs w sign)
   name_keeps fs w Sign.Prime h = λ i. record { from = h.from; before = h.before; is = primed_head fs w h.is i }
   name_keeps fs w Sign.LeftRound h = λ i. Before.arguments m h.before h.is i Args.none
-  name_keeps fs w sign h = term_keeps fs (term.Applied w false []) sign (bare_termed fs w false h)
+  name_keeps fs w sign h = term_keeps fs (term.Named w false) sign (bare_termed fs w false h)
 
   primed_keeps : (fs : List Frame) (w : Word) (sign : Sign) → Named base all fs w true (m ∷ rest) → Keeps base all rest m sign (after_primed fs w sign)
   primed_keeps fs w Sign.LeftRound h = λ i. Before.arguments m h.before h.is i Args.none
-  primed_keeps fs w sign h = term_keeps fs (term.Applied w true []) sign (bare_termed fs w true h)
+  primed_keeps fs w sign h = term_keeps fs (term.Named w true) sign (bare_termed fs w true h)
 
   before_keeps : (fs : List Frame) (sign : Sign) → Before base all fs (m ∷ rest) → Keeps base all rest m sign (before fs m.word sign)
   before_keeps fs Sign.Name h = λ i. record { from = _; before = h; is = IsHead.plain m i }
@@ -518,8 +518,8 @@ module _ (base : Context) (all : List Mark) where
   finished : (last : Last) (fs : List Frame) → IsReadBy base all last fs [] → IfSome (finish_by last fs) (Spelled base all)
   finished Last.Want fs h = tt
   finished Last.WantTerm fs h = tt
-  finished (Last.Name n) fs h = ended_term fs (term.Applied n false []) (record { from = h.from; before = h.before; is = IsTerm.bare h.is })
-  finished (Last.Primed n) fs h = ended_term fs (term.Applied n true []) (record { from = h.from; before = h.before; is = IsTerm.bare h.is })
+  finished (Last.Name n) fs h = ended_term fs (term.Named n false) (record { from = h.from; before = h.before; is = IsTerm.bare h.is })
+  finished (Last.Primed n) fs h = ended_term fs (term.Named n true) (record { from = h.from; before = h.before; is = IsTerm.bare h.is })
   finished (Last.Term t) fs h = ended_term fs t h
   finished (Last.Operand y) fs h = ended fs y h
   finished (Last.Header u bs stage) fs h = tt

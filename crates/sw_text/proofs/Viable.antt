@@ -128,11 +128,11 @@ term_proper fs t sign h = atom_proper _ t sign (record { takes = refl; proper = 
 name_proper : (fs : List Frame) (w : Word) (sign : Sign) → Proper fs → IfSome (after_name fs w sign) IsProper
 name_proper fs w Sign.Prime h = h
 name_proper fs w Sign.LeftRound h = Proper.argument h
-name_proper fs w sign h = term_proper fs (term.Applied w false []) sign h
+name_proper fs w sign h = term_proper fs (term.Named w false) sign h
 
 primed_proper : (fs : List Frame) (w : Word) (sign : Sign) → Proper fs → IfSome (after_primed fs w sign) IsProper
 primed_proper fs w Sign.LeftRound h = Proper.argument h
-primed_proper fs w sign h = term_proper fs (term.Applied w true []) sign h
+primed_proper fs w sign h = term_proper fs (term.Named w true) sign h
 
 before_proper : (fs : List Frame) (w : Word) (sign : Sign) → Ready fs → IfSome (before fs w sign) IsProper
 before_proper fs w Sign.Name h = h.proper
@@ -231,7 +231,7 @@ module _ (base : Context) where
   term_completes fs x t a h = operand_completes _ (tree.Atom x) t (atom_acts _ x t refl a) (record { takes = refl; proper = h })
 
   name_completes : (fs : List Frame) (w : Word) (p : Bool) → Proper fs → Completes base (after_head fs w p)
-  name_completes fs w p h = term_completes fs (term.Applied w p []) (after_head fs w p) (head_acts fs w p) h
+  name_completes fs w p h = term_completes fs (term.Named w p) (after_head fs w p) (head_acts fs w p) h
 
   want_completes : (fs : List Frame) → Proper fs → Completes base (want fs)
   want_completes fs h = one_more Sign.Name (want fs) (after_head fs (made Sign.Name) false) refl (name_completes fs (made Sign.Name) false h)

@@ -113,7 +113,7 @@ pub data IsHead : List Mark → Word → Bool → List Mark → Type 0 where
 mutual
   -- term = name [ "'" ] [ "(" term { "," term } ")" ], where so many nestings are open
   pub data IsTerm : ℕ → List Mark → TermTree → List Mark → Type 0 where
-    bare : {d : ℕ} {ms rest : List Mark} {w : Word} {primed : Bool} → IsHead ms w primed rest → IsTerm d ms (term.Applied w primed []) rest
+    bare : {d : ℕ} {ms rest : List Mark} {w : Word} {primed : Bool} → IsHead ms w primed rest → IsTerm d ms (term.Named w primed) rest
     applied : {d : ℕ} {ms us rest : List Mark} {w : Word} {primed : Bool} {ts : List TermTree} (l r : Mark) → IsHead ms w primed (l ∷ us) → Is Sign.LeftRound (opening (d + 1)) l → AreTerms (d + 1) us ts (r ∷ rest) → Is Sign.RightRound no_loads r → IsTerm d ms (term.Applied w primed ts) rest
 
   pub data AreTerms : ℕ → List Mark → List TermTree → List Mark → Type 0 where

@@ -7,3 +7,5 @@ pub mod Steps
 pub mod Limits
 pub mod Answers
 pub mod Laws
+pub mod Names
+pub mod Resolving

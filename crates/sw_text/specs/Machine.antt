@@ -134,11 +134,11 @@ end_term fs t = end fs (tree.Atom t)
 abbrev pub after_name : List Frame → Word → Sign → Option State
 after_name fs w Sign.Prime = Some (record { stack = fs; last = Last.Primed w })
 after_name fs w Sign.LeftRound = Some (want_term (Frame.Arguments w false [] ∷ fs))
-after_name fs w sign = after_term fs (term.Applied w false []) sign
+after_name fs w sign = after_term fs (term.Named w false) sign
 
 abbrev pub after_primed : List Frame → Word → Sign → Option State
 after_primed fs w Sign.LeftRound = Some (want_term (Frame.Arguments w true [] ∷ fs))
-after_primed fs w sign = after_term fs (term.Applied w true []) sign
+after_primed fs w sign = after_term fs (term.Named w true) sign
 
 abbrev pub header : List Frame → Bool → List Binder → Stage → State
 header fs u bs stage = record { stack = fs; last = Last.Header u bs stage }
@@ -182,8 +182,8 @@ step s w = step_by s.last s.stack w w.sign
 abbrev pub finish_by : Last → List Frame → Option Tree
 finish_by Last.Want fs = None
 finish_by Last.WantTerm fs = None
-finish_by (Last.Name n) fs = end_term fs (term.Applied n false [])
-finish_by (Last.Primed n) fs = end_term fs (term.Applied n true [])
+finish_by (Last.Name n) fs = end_term fs (term.Named n false)
+finish_by (Last.Primed n) fs = end_term fs (term.Named n true)
 finish_by (Last.Term t) fs = end_term fs t
 finish_by (Last.Operand y) fs = end fs y
 finish_by (Last.Header u bs stage) fs = None

@@ -43,8 +43,8 @@ bracketed n = record { alone = n; operand = n + 1; negated = n + 2 }
 
 -- arguments stand in brackets
 abbrev pub term_step : TermTree-F ℕ → ℕ
-term_step (TermTree-F.Applied name primed []) = 0
-term_step (TermTree-F.Applied name primed (n ∷ ns)) = greatest (n ∷ ns) + 1
+term_step (TermTree-F.Named name primed) = 0
+term_step (TermTree-F.Applied name primed ns) = greatest ns + 1
 
 abbrev pub term_nestings : TermTree → ℕ
 term_nestings = fold-TermTree ℕ term_step

@@ -1,18 +1,25 @@
-//! The texts of formulas: which words spell one, and the reader that finds it, a word at a time.
+//! The texts of formulas: which words spell one, the reader that finds it, and what its names stand for.
 #![tactic(auto)]
 
+pub mod formulas;
 pub mod frames;
 pub mod laws;
 pub mod limits;
 pub mod machine;
 pub mod measures;
+#[cfg(test)]
+mod name_tests;
+pub mod names;
 pub mod reader;
+pub mod resolve;
 pub mod stack;
 #[cfg(test)]
 mod tests;
 pub mod tree;
 pub mod words;
 
+pub use names::{Names, Place, Rule, Violation};
 pub use reader::{Around, Read, read_tree};
+pub use resolve::Resolved;
 pub use tree::{Binder, TermTree, Tree};
 pub use words::{Sign, Word};

@@ -286,17 +286,16 @@ fn after_name(
     name: Word,
     sign: Sign,
 ) -> Result<Step, AllocError>
-    ensures { IfOk result (Answers (after_name stack name sign) (end_term stack (term.Applied name false []))) }
+    ensures { IfOk result (Answers (after_name stack name sign) (end_term stack (term.Named name false))) }
 {
-    let args = Items::new(alloc);
     let mut open = stack;
     match sign {
         Sign::Prime => Ok(taken(open, Last::Primed(name))),
         Sign::LeftRound => {
-            open.push(Frame::Arguments(name, false, args))?;
+            open.push(Frame::Arguments(name, false, Items::new(alloc)))?;
             Ok(taken(open, Last::WantTerm))
         }
-        _ => after_term(alloc, open, TermTree::Applied(name, false, args), sign),
+        _ => after_term(alloc, open, TermTree::Named(name, false), sign),
     }
 }
 
@@ -307,16 +306,15 @@ fn after_primed(
     name: Word,
     sign: Sign,
 ) -> Result<Step, AllocError>
-    ensures { IfOk result (Answers (after_primed stack name sign) (end_term stack (term.Applied name true []))) }
+    ensures { IfOk result (Answers (after_primed stack name sign) (end_term stack (term.Named name true))) }
 {
-    let args = Items::new(alloc);
     let mut open = stack;
     match sign {
         Sign::LeftRound => {
-            open.push(Frame::Arguments(name, true, args))?;
+            open.push(Frame::Arguments(name, true, Items::new(alloc)))?;
             Ok(taken(open, Last::WantTerm))
         }
-        _ => after_term(alloc, open, TermTree::Applied(name, true, args), sign),
+        _ => after_term(alloc, open, TermTree::Named(name, true), sign),
     }
 }
 
@@ -424,20 +422,8 @@ impl State {
         let State { stack, last } = self;
         match last {
             Last::Want | Last::WantTerm | Last::Header(_, _, _) => Ok(None),
-            Last::Name(name) => {
-                end_term(
-                    alloc,
-                    stack,
-                    TermTree::Applied(name, false, Items::new(alloc)),
-                )
-            }
-            Last::Primed(name) => {
-                end_term(
-                    alloc,
-                    stack,
-                    TermTree::Applied(name, true, Items::new(alloc)),
-                )
-            }
+            Last::Name(name) => { end_term(alloc, stack, TermTree::Named(name, false)) }
+            Last::Primed(name) => { end_term(alloc, stack, TermTree::Named(name, true)) }
             Last::Term(term) => end_term(alloc, stack, term),
             Last::Operand(operand) => end(alloc, stack, operand),
         }

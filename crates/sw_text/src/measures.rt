@@ -47,12 +47,9 @@ fn longest_of(trees: &[Tree]) -> u32
 fn term_nestings(term: &TermTree) -> u32
     ensures { result ≡ min (2 ^ 32 - 1) (term_nestings term.now) }
 {
-    let TermTree::Applied(_, _, args) = term;
-    let args = args.as_slice();
-    if args.is_empty() {
-        0
-    } else {
-        deepest_of(args).saturating_add(1)
+    match term {
+        TermTree::Named(_, _) => 0,
+        TermTree::Applied(_, _, args) => deepest_of(args.as_slice()).saturating_add(1),
     }
 }
 

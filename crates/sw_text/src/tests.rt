@@ -19,18 +19,24 @@ fn push_word(out: &mut String, text: &[u8], word: Word) -> Result<(), AllocError
     }
 }
 
+fn push_head(out: &mut String, text: &[u8], name: Word, primed: bool) -> Result<(), AllocError> {
+    push_word(out, text, name)?;
+    out.push_str(if primed { "'" } else { "" })
+}
+
 fn push_term(out: &mut String, text: &[u8], term: &TermTree) -> Result<(), AllocError> {
-    let TermTree::Applied(name, primed, args) = term;
-    push_word(out, text, *name)?;
-    if *primed {
-        out.push_str("'")?;
+    match term {
+        TermTree::Named(name, primed) => push_head(out, text, *name, *primed),
+        TermTree::Applied(name, primed, args) => {
+            push_head(out, text, *name, *primed)?;
+            for arg in args.as_slice() {
+                out.push_str("[")?;
+                push_term(out, text, arg)?;
+                out.push_str("]")?;
+            }
+            Ok(())
+        }
     }
-    for arg in args.as_slice() {
-        out.push_str("[")?;
-        push_term(out, text, arg)?;
-        out.push_str("]")?;
-    }
-    Ok(())
 }
 
 fn push_binders(out: &mut String, text: &[u8], binders: &[Binder]) -> Result<(), AllocError> {

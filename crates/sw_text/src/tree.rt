@@ -3,9 +3,10 @@
 use crate::words::Word;
 use sqlite_items::{Boxed, Items};
 
-/// A name, whether a prime follows it, and its arguments.
+/// A name and whether a prime follows it; or the same with arguments, of which there is at least one.
 #[derive(Debug, Drop)]
 pub enum TermTree {
+    Named(Word, bool),
     Applied(Word, bool, Items<TermTree>),
 }
 
