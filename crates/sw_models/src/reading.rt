@@ -1,0 +1,272 @@
+//! Text as structures.
+ghost use Rattle.std.specs.Prelude.{◌≡◌, ◌≢◌, ℕ, ◌+◌, ◌-◌, ◌^◌, ◌<◌, ◌≤◌, [], ◌∷◌, ◌++◌, List, length, map, All, Option, Some, None, Result, Ok, IfOk, IfSome, MatchOption, MatchResult, codes, true};
+ghost use Rattle.std.specs.Fmt.{decimal};
+ghost use Rattle.std.specs.Char.{digit_value};
+ghost use Rattle.std.specs.Str.Parse.{AllDigits, digits_value};
+ghost use Rattle.sw_logic.specs.declared.structure.Structure.{Structure};
+ghost use Rattle.sw_logic.specs.declared.structure.Table.{Table};
+ghost use Rattle.sw_logic.specs.Fits.{fits};
+ghost use Rattle.sw_models.specs.declared.errors.StructureError.{StructureError};
+ghost use Rattle.sw_models.specs.Text.{bit_digit, values_text, table_text, kind_word, line_start, line_above, structure_text};
+ghost use Rattle.sw_models.specs.Reading.{Line, Content, IsNumber, IsTableOf, IsFault, value_fault, table_fault, HasText, HasSorts, answer_of};
+ghost use Rattle.sw_models.specs.Steps.{IsLine, HasNoLine, InOrder, SizesRead, TablesRead, FailsAt};
+
+use crate::errors::StructureError;
+use crate::printing::kind_word;
+use sqlite_items::Items;
+use std::alloc::{AllocError, Global};
+use sw_logic::{Name, Signature, Structure, Symbol, SymbolKind, Table, count_tuples, size_at};
+
+/// The bytes after this prefix, if they begin with it.
+fn after<'t>(bytes: &'t [u8], prefix: &[u8]) -> Option<&'t [u8]>
+    ensures { MatchOption result ((rest : List ℕ) → bytes.now ≢ prefix.now ++ rest) (λ rest. bytes.now ≡ prefix.now ++ rest.now) }
+{
+    bytes.strip_prefix(prefix)
+}
+
+fn after_start<'t>(bytes: &'t [u8], word: &str, name: &str) -> Option<&'t [u8]>
+    ensures { MatchOption result ((rest : List ℕ) → bytes.now ≢ line_start word.now name.now ++ rest) (λ rest. bytes.now ≡ line_start word.now name.now ++ rest.now) }
+{
+    let spaced = after(bytes, word.as_bytes())?;
+    let named = after(spaced, b" ")?;
+    after(after(named, name.as_bytes())?, b" ")
+}
+
+/// The first line without its line feed, and what is below it.
+fn first_line(bytes: &[u8]) -> Option<(&[u8], &[u8])>
+    ensures { MatchOption result (HasNoLine [] bytes.now) (λ line. IsLine [] line.0.now line.1.now bytes.now) }
+{
+    let end = bytes.iter().position(|byte| *byte == b'\n')?;
+    Some((&bytes[..end], &bytes[end + 1..]))
+}
+
+/// What the first line has after its start, and what is below it.
+fn line_after<'t>(bytes: &'t [u8], word: &str, name: &str) -> Option<(&'t [u8], &'t [u8])>
+    ensures { MatchOption result (HasNoLine (line_start word.now name.now) bytes.now) (λ line. IsLine (line_start word.now name.now) line.0.now line.1.now bytes.now) }
+{
+    first_line(after_start(bytes, word, name)?)
+}
+
+fn digit(byte: u8) -> Option<u32>
+    ensures { MatchOption result (10 ≤ digit_value byte) (λ d. (digit_value byte ≡ d) × (d < 10)) }
+{
+    match byte {
+        b'0'..=b'9' => Some((byte - b'0') as u32),
+        _ => None,
+    }
+}
+
+/// The number that these digits are, if it fits.
+fn number_of(digits: &[u8]) -> Option<u32>
+    ensures { MatchOption result (AllDigits 10 digits.now → 2 ^ 32 ≤ digits_value 10 digits.now) (λ n. AllDigits 10 digits.now × (digits_value 10 digits.now ≡ n) × IsNumber n) }
+{
+    let mut number: u32 = 0;
+    for byte in digits {
+        number = number.checked_mul(10)?.checked_add(digit(*byte)?)?;
+    }
+    Some(number)
+}
+
+/// The number that a word is, if it is one: digits without a zero in front.
+fn read_number(word: &[u8]) -> Option<u32>
+    ensures { MatchOption result ((n : ℕ) → IsNumber n → word.now ≢ decimal n) (λ n. (word.now ≡ decimal n) × IsNumber n) }
+{
+    match word {
+        [] | [b'0', _, ..] => None,
+        _ => number_of(word),
+    }
+}
+
+fn read_bits(alloc: Global, body: &[u8]) -> Result<Option<Items<bool>>, AllocError>
+    ensures { IfOk result (λ found. MatchOption found ((bits : List Bool) → body.now ≢ map bit_digit bits) (λ bits. body.now ≡ map bit_digit bits)) }
+{
+    let mut bits = Items::new(alloc);
+    for byte in body {
+        match byte {
+            b'0' => bits.push(false)?,
+            b'1' => bits.push(true)?,
+            _ => return Ok(None),
+        }
+    }
+    Ok(Some(bits))
+}
+
+fn read_values(alloc: Global, body: &[u8]) -> Result<Option<Items<u32>>, AllocError>
+    ensures { IfOk result (λ found. MatchOption found ((values : List ℕ) → values ≢ [] → All IsNumber values → body.now ≢ values_text values) (λ values. (values ≢ []) × All IsNumber values × (body.now ≡ values_text values))) }
+{
+    let mut values = Items::new(alloc);
+    for word in body.split(|byte| *byte == b' ') {
+        let Some(value) = read_number(word) else {
+            return Ok(None);
+        };
+        values.push(value)?;
+    }
+    Ok(Some(values))
+}
+
+/// The table that a line of such a symbol has as its body.
+fn read_body(alloc: Global, kind: SymbolKind, body: &[u8]) -> Result<Option<Table>, AllocError>
+    ensures { IfOk result (λ found. MatchOption found ((table : Table) → IsTableOf kind table → body.now ≢ table_text table) (λ table. IsTableOf kind table × (body.now ≡ table_text table))) }
+{
+    match kind {
+        SymbolKind::Relation if body.is_empty() => Ok(None),
+        SymbolKind::Relation => Ok(read_bits(alloc, body)?.map(Table::Bits)),
+        SymbolKind::Constant => Ok(read_number(body).map(Table::Value)),
+        SymbolKind::Function => Ok(read_values(alloc, body)?.map(Table::Values)),
+    }
+}
+
+/// How many digits a number has.
+fn digit_count(number: u32) -> u32
+    ensures { result ≡ length (decimal number) }
+{
+    let mut left = number;
+    let mut count = 1;
+    while left >= 10 {
+        left /= 10;
+        count += 1;
+    }
+    count
+}
+
+/// The first value that is not below the size, by its place in the text.
+fn value_fault(size: u32, mut at: u32, values: &[u32]) -> Option<StructureError>
+    requires { at + (length (values_text values.now) + 1) < 2 ^ 32 }
+    ensures { result ≡ value_fault size at values.now }
+{
+    for value in values {
+        if *value >= size {
+            return Some(StructureError::ValueRange { at });
+        }
+        at += digit_count(*value) + 1;
+    }
+    None
+}
+
+/// What is wrong with a symbol's table that stands at this place of the text.
+fn table_fault(sizes: &[u32], symbol: &Symbol, at: u32, table: &Table) -> Option<StructureError>
+    requires { at + (length (table_text table.now) + 1) < 2 ^ 32 }
+    ensures { result ≡ table_fault sizes.now symbol.now at table.now }
+{
+    let count = count_tuples(sizes, symbol.args.as_slice());
+    let size = size_at(sizes, symbol.gives);
+    match table {
+        Table::Bits(bits) if bits.len() as u128 != count => {
+            Some(StructureError::TableLength { at })
+        }
+        Table::Bits(_) => None,
+        Table::Value(value) => value_fault(size, at, &[*value]),
+        Table::Values(values) if values.len() as u128 != count => {
+            Some(StructureError::TableLength { at })
+        }
+        Table::Values(values) => value_fault(size, at, values.as_slice()),
+    }
+}
+
+fn read_size<'t>(at: u32, bytes: &'t [u8], sort: &Name) -> Result<(u32, &'t [u8]), StructureError>
+    ensures { (sizes : List ℕ) → MatchResult result (λ read. InOrder sizes at (Line.of_sort sort.now) (Content.a_size read.0) read.1.now bytes.now) (λ e. IsFault sizes at (Line.of_sort sort.now) bytes.now e) }
+{
+    let Some((body, below)) = line_after(bytes, "size", sort.as_str()) else {
+        return Err(StructureError::Syntax { at });
+    };
+    match read_number(body) {
+        None => Err(StructureError::Syntax { at }),
+        Some(0) => Err(StructureError::SizeZero { at }),
+        Some(size) => Ok((size, below)),
+    }
+}
+
+fn read_table<'t>(
+    alloc: Global,
+    sizes: &[u32],
+    at: u32,
+    bytes: &'t [u8],
+    symbol: &Symbol,
+) -> Result<(Table, &'t [u8]), StructureError>
+    requires { at + length bytes.now < 2 ^ 32 }
+    ensures { MatchResult result (λ read. InOrder sizes.now at (Line.of_symbol symbol.now) (Content.a_table read.0) read.1.now bytes.now) (λ e. e ≢ StructureError.Memory → IsFault sizes.now at (Line.of_symbol symbol.now) bytes.now e) }
+{
+    let word = kind_word(symbol.kind);
+    let name = symbol.name.as_str();
+    let Some((body, below)) = line_after(bytes, word, name) else {
+        return Err(StructureError::Syntax { at });
+    };
+    let Some(table) = read_body(alloc, symbol.kind, body)? else {
+        return Err(StructureError::Syntax { at });
+    };
+    let start = (word.len() + name.len() + 2) as u32;
+    match table_fault(sizes, symbol, at + start, &table) {
+        Some(fault) => Err(fault),
+        None => Ok((table, below)),
+    }
+}
+
+fn read_sizes<'t>(
+    alloc: Global,
+    end: u32,
+    mut bytes: &'t [u8],
+    sorts: &[Name],
+) -> Result<(Items<u32>, &'t [u8]), StructureError>
+    requires { length bytes.entry.now ≤ end }
+    ensures { MatchResult result (λ read. SizesRead end sorts.now read.0 read.1.now bytes.entry.now) (λ e. FailsAt (map Line.of_sort sorts.now) [] end bytes.entry.now e) }
+{
+    let mut sizes = Items::new(alloc);
+    for sort in sorts {
+        let (size, below) = read_size(end - bytes.len() as u32, bytes, sort)?;
+        sizes.push(size)?;
+        bytes = below;
+    }
+    Ok((sizes, bytes))
+}
+
+fn read_tables<'t>(
+    alloc: Global,
+    end: u32,
+    mut bytes: &'t [u8],
+    sizes: &[u32],
+    symbols: &[Symbol],
+) -> Result<(Items<Table>, &'t [u8]), StructureError>
+    requires { length bytes.entry.now ≤ end }
+    ensures { MatchResult result (λ read. TablesRead end symbols.now sizes.now read.0 read.1.now bytes.entry.now) (λ e. FailsAt (map Line.of_symbol symbols.now) sizes.now end bytes.entry.now e) }
+{
+    let mut tables = Items::new(alloc);
+    for symbol in symbols {
+        let at = end - bytes.len() as u32;
+        let (table, below) = read_table(alloc, sizes, at, bytes, symbol)?;
+        tables.push(table)?;
+        bytes = below;
+    }
+    Ok((tables, bytes))
+}
+
+/// The structure of the signature that a text is.
+///
+/// The first fault in the text is the answer. `Memory` comes where memory ran out, or where the
+/// text has 2^32 bytes or more.
+pub fn read_structure(
+    alloc: Global,
+    sig: &Signature,
+    text: &[u8],
+) -> Result<Structure, StructureError>
+    ensures has { IfSome (answer_of result) (HasText sig.now text.now) }
+    ensures no_other { (r : Result Structure StructureError) → HasText sig.now text.now r → IfSome (answer_of result) (λ s. s ≡ r) }
+    ensures fits { IfOk result (λ s. fits sig.now s ≡ true) }
+    ensures text { IfOk result (λ s. text.now ≡ structure_text sig.now s) }
+    ensures complete { (s : Structure) → HasSorts sig.now → fits sig.now s ≡ true → All IsNumber s.sizes → text.now ≡ structure_text sig.now s → IfSome (answer_of result) (λ r. r ≡ Ok s) }
+{
+    let Ok(end) = u32::try_from(text.len()) else {
+        return Err(StructureError::Memory);
+    };
+    let Some(bytes) = after(text, b"structure\n") else {
+        return Err(StructureError::Syntax { at: 0 });
+    };
+    let (sizes, bytes) = read_sizes(alloc, end, bytes, sig.sorts.as_slice())?;
+    let symbols = sig.symbols.as_slice();
+    let (tables, bytes) = read_tables(alloc, end, bytes, sizes.as_slice(), symbols)?;
+    if !bytes.is_empty() {
+        return Err(StructureError::Syntax {
+            at: end - bytes.len() as u32,
+        });
+    }
+    Ok(Structure { sizes, tables })
+}
