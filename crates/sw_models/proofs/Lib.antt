@@ -1,1 +1,4 @@
+pub mod Numbers
+pub mod Pieces
 pub mod Printed
+pub mod Values

@@ -34,9 +34,13 @@ kind_word Relation = codes "relation"
 kind_word Constant = codes "constant"
 kind_word Function = codes "function"
 
+-- with a space after it
+abbrev pub spaced : List ℕ → List ℕ
+spaced word = word ++ 32 ∷ []
+
 -- how a line begins: a word and a name, with a space after each
 abbrev pub line_start : List ℕ → List ℕ → List ℕ
-line_start word name = word ++ 32 ∷ (name ++ 32 ∷ [])
+line_start word name = spaced word ++ spaced name
 
 -- a line of this start and this body, and what stands below it
 abbrev pub line_above : List ℕ → List ℕ → List ℕ → List ℕ

@@ -1,5 +1,5 @@
 //! Text as structures.
-ghost use Rattle.std.specs.Prelude.{◌≡◌, ◌≢◌, ℕ, ◌+◌, ◌-◌, ◌^◌, ◌<◌, ◌≤◌, [], ◌∷◌, ◌++◌, List, length, map, All, Option, Some, None, Result, Ok, IfOk, IfSome, MatchOption, MatchResult, codes, true};
+ghost use Rattle.std.specs.Prelude.{◌≡◌, ◌≢◌, ℕ, ◌+◌, ◌-◌, ◌*◌, ◌^◌, ◌<◌, ◌≤◌, [], ◌∷◌, ◌++◌, List, Bool, length, map, All, Option, Some, None, Result, Ok, IfOk, IfSome, MatchOption, MatchResult, codes, true, IsTrue, ◌↔◌, slice_index};
 ghost use Rattle.std.specs.Fmt.{decimal};
 ghost use Rattle.std.specs.Char.{digit_value};
 ghost use Rattle.std.specs.Str.Parse.{AllDigits, digits_value};
@@ -7,7 +7,7 @@ ghost use Rattle.sw_logic.specs.declared.structure.Structure.{Structure};
 ghost use Rattle.sw_logic.specs.declared.structure.Table.{Table};
 ghost use Rattle.sw_logic.specs.Fits.{fits};
 ghost use Rattle.sw_models.specs.declared.errors.StructureError.{StructureError};
-ghost use Rattle.sw_models.specs.Text.{bit_digit, values_text, table_text, kind_word, line_start, line_above, structure_text};
+ghost use Rattle.sw_models.specs.Text.{bit_digit, others_text, values_text, table_text, kind_word, spaced, line_start, line_above, structure_text};
 ghost use Rattle.sw_models.specs.Reading.{Line, Content, IsNumber, IsTableOf, IsFault, value_fault, table_fault, HasText, HasSorts, answer_of};
 ghost use Rattle.sw_models.specs.Steps.{IsLine, HasNoLine, InOrder, SizesRead, TablesRead, FailsAt};
 
@@ -24,19 +24,25 @@ fn after<'t>(bytes: &'t [u8], prefix: &[u8]) -> Option<&'t [u8]>
     bytes.strip_prefix(prefix)
 }
 
+fn after_spaced<'t>(bytes: &'t [u8], word: &str) -> Option<&'t [u8]>
+    ensures { MatchOption result ((rest : List ℕ) → bytes.now ≢ spaced word.now ++ rest) (λ rest. bytes.now ≡ spaced word.now ++ rest.now) }
+{
+    after(after(bytes, word.as_bytes())?, b" ")
+}
+
 fn after_start<'t>(bytes: &'t [u8], word: &str, name: &str) -> Option<&'t [u8]>
     ensures { MatchOption result ((rest : List ℕ) → bytes.now ≢ line_start word.now name.now ++ rest) (λ rest. bytes.now ≡ line_start word.now name.now ++ rest.now) }
 {
-    let spaced = after(bytes, word.as_bytes())?;
-    let named = after(spaced, b" ")?;
-    after(after(named, name.as_bytes())?, b" ")
+    after_spaced(after_spaced(bytes, word)?, name)
 }
 
 /// The first line without its line feed, and what is below it.
 fn first_line(bytes: &[u8]) -> Option<(&[u8], &[u8])>
     ensures { MatchOption result (HasNoLine [] bytes.now) (λ line. IsLine [] line.0.now line.1.now bytes.now) }
 {
-    let end = bytes.iter().position(|byte| *byte == b'\n')?;
+    let Some(end) = bytes.iter().position(|byte| *byte == b'\n') else {
+        return None;
+    };
     Some((&bytes[..end], &bytes[end + 1..]))
 }
 
@@ -47,13 +53,15 @@ fn line_after<'t>(bytes: &'t [u8], word: &str, name: &str) -> Option<(&'t [u8], 
     first_line(after_start(bytes, word, name)?)
 }
 
-fn digit(byte: u8) -> Option<u32>
-    ensures { MatchOption result (10 ≤ digit_value byte) (λ d. (digit_value byte ≡ d) × (d < 10)) }
+/// The number with one more digit at its end, if it fits.
+fn with_digit(number: u32, byte: u8) -> Option<u32>
+    ensures { MatchOption result (digit_value byte < 10 → 2 ^ 32 ≤ number * 10 + digit_value byte) (λ n. (digit_value byte < 10) × (n ≡ number * 10 + digit_value byte) × IsNumber n) }
 {
-    match byte {
-        b'0'..=b'9' => Some((byte - b'0') as u32),
-        _ => None,
+    if !byte.is_ascii_digit() {
+        return None;
     }
+    let digit = (byte - b'0') as u32;
+    number.checked_mul(10)?.checked_add(digit)
 }
 
 /// The number that these digits are, if it fits.
@@ -62,18 +70,37 @@ fn number_of(digits: &[u8]) -> Option<u32>
 {
     let mut number: u32 = 0;
     for byte in digits {
-        number = number.checked_mul(10)?.checked_add(digit(*byte)?)?;
+        let Some(more) = with_digit(number, *byte) else {
+            return None;
+        };
+        number = more;
     }
     Some(number)
+}
+
+fn has_zero_in_front(word: &[u8]) -> bool
+    ensures { IsTrue result ↔ ((1 < length word.now) × (slice_index word.now 0 ≡ 48)) }
+{
+    word.len() > 1 && word[0] == b'0'
 }
 
 /// The number that a word is, if it is one: digits without a zero in front.
 fn read_number(word: &[u8]) -> Option<u32>
     ensures { MatchOption result ((n : ℕ) → IsNumber n → word.now ≢ decimal n) (λ n. (word.now ≡ decimal n) × IsNumber n) }
 {
-    match word {
-        [] | [b'0', _, ..] => None,
-        _ => number_of(word),
+    if word.is_empty() || has_zero_in_front(word) {
+        return None;
+    }
+    number_of(word)
+}
+
+fn bit_of(byte: u8) -> Option<bool>
+    ensures { MatchOption result ((bit : Bool) → byte ≢ bit_digit bit) (λ bit. byte ≡ bit_digit bit) }
+{
+    match byte {
+        b'0' => Some(false),
+        b'1' => Some(true),
+        _ => None,
     }
 }
 
@@ -82,11 +109,10 @@ fn read_bits(alloc: Global, body: &[u8]) -> Result<Option<Items<bool>>, AllocErr
 {
     let mut bits = Items::new(alloc);
     for byte in body {
-        match byte {
-            b'0' => bits.push(false)?,
-            b'1' => bits.push(true)?,
-            _ => return Ok(None),
-        }
+        let Some(bit) = bit_of(*byte) else {
+            return Ok(None);
+        };
+        bits.push(bit)?;
     }
     Ok(Some(bits))
 }
@@ -131,7 +157,7 @@ fn digit_count(number: u32) -> u32
 
 /// The first value that is not below the size, by its place in the text.
 fn value_fault(size: u32, mut at: u32, values: &[u32]) -> Option<StructureError>
-    requires { at + (length (values_text values.now) + 1) < 2 ^ 32 }
+    requires { at + length (others_text values.now) < 2 ^ 32 }
     ensures { result ≡ value_fault size at values.now }
 {
     for value in values {
@@ -204,39 +230,41 @@ fn read_table<'t>(
 fn read_sizes<'t>(
     alloc: Global,
     end: u32,
-    mut bytes: &'t [u8],
+    bytes: &'t [u8],
     sorts: &[Name],
 ) -> Result<(Items<u32>, &'t [u8]), StructureError>
-    requires { length bytes.entry.now ≤ end }
-    ensures { MatchResult result (λ read. SizesRead end sorts.now read.0 read.1.now bytes.entry.now) (λ e. FailsAt (map Line.of_sort sorts.now) [] end bytes.entry.now e) }
+    requires { length bytes.now ≤ end }
+    ensures { MatchResult result (λ read. SizesRead end sorts.now read.0 read.1.now bytes.now) (λ e. FailsAt (map Line.of_sort sorts.now) [] end bytes.now e) }
 {
     let mut sizes = Items::new(alloc);
+    let mut rest = bytes;
     for sort in sorts {
-        let (size, below) = read_size(end - bytes.len() as u32, bytes, sort)?;
+        let (size, below) = read_size(end - rest.len() as u32, rest, sort)?;
         sizes.push(size)?;
-        bytes = below;
+        rest = below;
     }
-    Ok((sizes, bytes))
+    Ok((sizes, rest))
 }
 
 fn read_tables<'t>(
     alloc: Global,
     end: u32,
-    mut bytes: &'t [u8],
+    bytes: &'t [u8],
     sizes: &[u32],
     symbols: &[Symbol],
 ) -> Result<(Items<Table>, &'t [u8]), StructureError>
-    requires { length bytes.entry.now ≤ end }
-    ensures { MatchResult result (λ read. TablesRead end symbols.now sizes.now read.0 read.1.now bytes.entry.now) (λ e. FailsAt (map Line.of_symbol symbols.now) sizes.now end bytes.entry.now e) }
+    requires { length bytes.now ≤ end }
+    ensures { MatchResult result (λ read. TablesRead end symbols.now sizes.now read.0 read.1.now bytes.now) (λ e. FailsAt (map Line.of_symbol symbols.now) sizes.now end bytes.now e) }
 {
     let mut tables = Items::new(alloc);
+    let mut rest = bytes;
     for symbol in symbols {
-        let at = end - bytes.len() as u32;
-        let (table, below) = read_table(alloc, sizes, at, bytes, symbol)?;
+        let at = end - rest.len() as u32;
+        let (table, below) = read_table(alloc, sizes, at, rest, symbol)?;
         tables.push(table)?;
-        bytes = below;
+        rest = below;
     }
-    Ok((tables, bytes))
+    Ok((tables, rest))
 }
 
 /// The structure of the signature that a text is.
