@@ -1,4 +1,10 @@
+pub mod Faults
+pub mod Lines
 pub mod Numbers
+pub mod Onward
 pub mod Pieces
 pub mod Printed
 pub mod Values
+pub mod Whole
+pub mod Sound
+pub mod Unique

@@ -92,3 +92,6 @@ one_digit n small = ap length (decimal_digit n small)
 
 pub ten_digits : (n : ℕ) → IsNumber n → length (decimal n) ≤ 10
 ten_digits n fits = length-decimal-le 10 n (omega arith) (omega arith) (omega arith)
+
+pub same_number : (m n : ℕ) → IsNumber m → IsNumber n → decimal m ≡ decimal n → m ≡ n
+same_number m n fits also e = decimal_injective m n (omega arith) (omega arith) e

@@ -1,15 +1,14 @@
 -- Numbers with spaces between them, and bits.
-use Rattle.std.proofs.Common.{◌≡◌, ◌≢◌, ℕ, zero, suc, ◌+◌, ◌^◌, ◌<◌, ◌≤◌, Bool, true, false, nat_eq, List, [], ◌∷◌, ◌++◌, length, map, take, drop, drop-cons, add-one, get_or, All, Some, refl, arith, append-nil, ◌∙◌, ap, sym, subst}
+use Rattle.std.proofs.Common.{◌≡◌, ◌≢◌, ℕ, zero, suc, ◌+◌, ◌^◌, ◌<◌, ◌≤◌, Bool, true, false, nat_eq, List, [], ◌∷◌, ◌++◌, length, map, take, get_or, All, refl, arith, append-nil, ◌∙◌, ap, sym, subst}
 use Rattle.std.specs.Fmt.{decimal}
 use Rattle.std.specs.List.{join_with_byte, slice_split, flat_map}
 use Rattle.std.proofs.lemmas.List.Splits.{slice_split_none, slice_split_at, join_with_byte-slice_split, length-slice_split}
-use Rattle.std.proofs.lemmas.List.Elements.{All-weaker, All-head, All-tail, All-push}
+use Rattle.std.proofs.lemmas.List.Elements.{All-weaker, All-head, All-tail, All-nil, All-cons, All-append, All-push}
 use Rattle.std.proofs.lemmas.Bool.{false_from_ne_true, eqb-true}
 use Rattle.std.proofs.lemmas.List.{length-map, get_or-map, map_push, take_more, take_all}
 use Rattle.sw_models.specs.Text.{values_text, bit_digit, others_text}
-use Rattle.sw_models.specs.Reading.{IsNumber, value_fault}
-use Rattle.sw_models.specs.declared.errors.StructureError.TheVariants.{ValueRange}
-use Rattle.sw_models.proofs.Numbers.{decimal_misses}
+use Rattle.sw_models.specs.Reading.{IsNumber}
+use Rattle.sw_models.proofs.Numbers.{decimal_misses, same_number}
 
 abbrev pub words : List ℕ → List (List ℕ)
 words body = slice_split (λ b. nat_eq b 32) body
@@ -78,19 +77,55 @@ no_bits (x ∷ body) i byte h e not [] f = cc
 no_bits (x ∷ body) zero byte h e not (bit ∷ bits) f = let g : x ≡ bit_digit bit = cc in not bit (e ∙ g)
 no_bits (x ∷ body) (suc i) byte h e not (bit ∷ bits) f = no_bits body i byte (omega arith) e not bits cc
 
--- one value fewer
-pub fault_more : (size at next : ℕ) (values : List ℕ) (i v : ℕ) → i < length values → v ≡ get_or values i 0 → v < size → next ≡ at + (length (decimal v) + 1)
-    → value_fault size next (drop (i + 1) values) ≡ value_fault size at (drop i values)
-fault_more size at next values i v h e small place = ?
+-- where there are numbers, no byte is one below all digits, other than the space
+pub values_miss : (v : ℕ) (values : List ℕ) (c : ℕ) → All IsNumber (v ∷ values) → c < 48 → c ≢ 32 → All (λ b. b ≢ c) (values_text (v ∷ values))
+values_miss v values c all low other =
+    All-append (λ b. b ≢ c) (decimal v) (others_text values) (decimal_misses v c (All-head IsNumber v values all) low)
+    (others_miss values c (All-tail IsNumber v values all) low other)
+  where
+    others_miss : (values : List ℕ) (c : ℕ) → All IsNumber values → c < 48 → c ≢ 32 → All (λ b. b ≢ c) (others_text values)
+    others_miss [] c all low other = All-nil (λ b. b ≢ c)
+    others_miss (v ∷ values) c all low other =
+        All-cons (λ b. b ≢ c) 32 (decimal v ++ others_text values) (λ e. other (sym e))
+        (All-append (λ b. b ≢ c) (decimal v) (others_text values) (decimal_misses v c (All-head IsNumber v values all) low)
+          (others_miss values c (All-tail IsNumber v values all) low other))
 
-pub fault_here : (size at : ℕ) (values : List ℕ) (i v : ℕ) → i < length values → v ≡ get_or values i 0 → size ≤ v
-    → Some (ValueRange at) ≡ value_fault size at (drop i values)
-fault_here size at values i v h e large = ?
+pub bits_miss : (bits : List Bool) (c : ℕ) → c < 48 → All (λ b. b ≢ c) (map bit_digit bits)
+bits_miss [] c low = All-nil (λ b. b ≢ c)
+bits_miss (true ∷ bits) c low = All-cons (λ b. b ≢ c) 49 (map bit_digit bits) (λ e. omega arith) (bits_miss bits c low)
+bits_miss (false ∷ bits) c low = All-cons (λ b. b ≢ c) 48 (map bit_digit bits) (λ e. omega arith) (bits_miss bits c low)
 
-pub others_more : (values : List ℕ) (i v : ℕ) → i < length values → v ≡ get_or values i 0
-    → length (others_text (drop i values)) ≡ (length (decimal v) + 1) + length (others_text (drop (i + 1) values))
-others_more values i v h e = ?
+-- numbers and bits are told by their text
+pub same_values : (values others : List ℕ) → values ≢ [] → others ≢ [] → All IsNumber values → All IsNumber others → values_text values ≡ values_text others → values ≡ others
+same_values [] others some more all every e = absurd (some refl)
+same_values (v ∷ values) [] some more all every e = absurd (more refl)
+same_values (v ∷ values) (w ∷ others) some more all every e =
+    same_decimals (v ∷ values) (w ∷ others) all every (sym (words_values v values all) ∙ ap words e ∙ words_values w others every)
+  where
+    same_decimals : (values others : List ℕ) → All IsNumber values → All IsNumber others → map decimal values ≡ map decimal others → values ≡ others
+    same_decimals [] [] all every e = refl
+    same_decimals [] (w ∷ others) all every e = cc
+    same_decimals (v ∷ values) [] all every e = cc
+    same_decimals (v ∷ values) (w ∷ others) all every e =
+        let first : decimal v ≡ decimal w = cc in
+        let rest : map decimal values ≡ map decimal others = cc in
+        let f : v ≡ w = same_number v w (All-head IsNumber v values all) (All-head IsNumber w others every) first in
+        let g : values ≡ others = same_decimals values others (All-tail IsNumber v values all) (All-tail IsNumber w others every) rest in
+        cc
 
-pub others_bound : (values : List ℕ) → length (others_text values) ≤ length (values_text values) + 1
-others_bound [] = omega arith
-others_bound (v ∷ values) = ?
+pub same_bits : (bits others : List Bool) → map bit_digit bits ≡ map bit_digit others → bits ≡ others
+same_bits [] [] e = refl
+same_bits [] (c ∷ others) e = cc
+same_bits (b ∷ bits) [] e = cc
+same_bits (b ∷ bits) (c ∷ others) e =
+    let first : bit_digit b ≡ bit_digit c = cc in
+    let rest : map bit_digit bits ≡ map bit_digit others = cc in
+    let f : b ≡ c = same_bit b c first in
+    let g : bits ≡ others = same_bits bits others rest in
+    cc
+  where
+    same_bit : (b c : Bool) → bit_digit b ≡ bit_digit c → b ≡ c
+    same_bit true true e = refl
+    same_bit true false e = absurd (omega arith)
+    same_bit false true e = absurd (omega arith)
+    same_bit false false e = refl

@@ -30,8 +30,8 @@ pub record SizesRead (end : ℕ) (sorts : List (List ℕ)) (sizes below bytes : 
 -- these are the tables of the symbols, and what is below them
 pub record TablesRead (end : ℕ) (symbols : List Symbol) (sizes : List ℕ) (tables : List Table) (below bytes : List ℕ) : Type 0 where
   pub within : length below ≤ end
-  pub goes_on : (r : Result Structure StructureError)
-      → Has r [] sizes tables (end - length below) below → Has r (map Line.of_symbol symbols) sizes [] (end - length bytes) bytes
+  pub goes_on : (r : Result Structure StructureError) (lines : List Line)
+      → Has r lines sizes tables (end - length below) below → Has r (map Line.of_symbol symbols ++ lines) sizes [] (end - length bytes) bytes
 
 -- among these lines is the first fault; want of memory says nothing
 abbrev pub FailsAt : List Line → List ℕ → ℕ → List ℕ → StructureError → Type 0

@@ -267,6 +267,29 @@ fn read_tables<'t>(
     Ok((tables, rest))
 }
 
+/// The structure that a text of this length is, or its first fault.
+fn read_lines(
+    alloc: Global,
+    sig: &Signature,
+    end: u32,
+    text: &[u8],
+) -> Result<Structure, StructureError>
+    requires { length text.now ≡ end }
+    ensures { IfSome (answer_of result) (HasText sig.now text.now) }
+{
+    let Some(body) = after(text, b"structure\n") else {
+        return Err(StructureError::Syntax { at: 0 });
+    };
+    let (sizes, rest) = read_sizes(alloc, end, body, sig.sorts.as_slice())?;
+    let symbols = sig.symbols.as_slice();
+    let (tables, rest) = read_tables(alloc, end, rest, sizes.as_slice(), symbols)?;
+    if !rest.is_empty() {
+        let at = end - rest.len() as u32;
+        return Err(StructureError::Syntax { at });
+    }
+    Ok(Structure { sizes, tables })
+}
+
 /// The structure of the signature that a text is.
 ///
 /// The first fault in the text is the answer. `Memory` comes where memory ran out, or where the
@@ -282,19 +305,8 @@ pub fn read_structure(
     ensures text { IfOk result (λ s. text.now ≡ structure_text sig.now s) }
     ensures complete { (s : Structure) → HasSorts sig.now → fits sig.now s ≡ true → All IsNumber s.sizes → text.now ≡ structure_text sig.now s → IfSome (answer_of result) (λ r. r ≡ Ok s) }
 {
-    let Ok(end) = u32::try_from(text.len()) else {
-        return Err(StructureError::Memory);
-    };
-    let Some(bytes) = after(text, b"structure\n") else {
-        return Err(StructureError::Syntax { at: 0 });
-    };
-    let (sizes, bytes) = read_sizes(alloc, end, bytes, sig.sorts.as_slice())?;
-    let symbols = sig.symbols.as_slice();
-    let (tables, bytes) = read_tables(alloc, end, bytes, sizes.as_slice(), symbols)?;
-    if !bytes.is_empty() {
-        return Err(StructureError::Syntax {
-            at: end - bytes.len() as u32,
-        });
+    match u32::try_from(text.len()) {
+        Ok(end) => read_lines(alloc, sig, end, text),
+        Err(_) => Err(StructureError::Memory),
     }
-    Ok(Structure { sizes, tables })
 }
