@@ -8,3 +8,4 @@ pub mod Values
 pub mod Whole
 pub mod Sound
 pub mod Unique
+pub mod Complete

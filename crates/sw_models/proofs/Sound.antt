@@ -1,5 +1,5 @@
 -- A structure that is read fits, and its text is what was read.
-use Rattle.std.proofs.Common.{◌≡◌, ◌≢◌, ℕ, ◌+◌, ◌<◌, ◌≤◌, zero, Bool, true, false, cond, nat_eq, nat_lt, List, [], ◌∷◌, ◌++◌, length, map, Option, Some, None, Result, Ok, Err, refl, arith, ◌∙◌, ap, sym, subst, append_assoc, append-nil, inl, inr}
+use Rattle.std.proofs.Common.{◌≡◌, ◌≢◌, ℕ, ◌+◌, ◌<◌, ◌≤◌, zero, suc, Bool, true, false, cond, nat_eq, nat_lt, List, [], ◌∷◌, ◌++◌, length, map, Option, Some, None, Result, Ok, Err, refl, arith, ◌∙◌, ap, sym, subst, append_assoc, append-nil, inl, inr}
 use Rattle.std.specs.Prelude.{codes}
 use Rattle.std.specs.List.{list_all}
 use Rattle.std.specs.Fmt.{decimal}
@@ -19,6 +19,9 @@ use Rattle.sw_models.specs.declared.errors.StructureError.{StructureError}
 use Rattle.sw_models.specs.declared.errors.StructureError.TheVariants.{Syntax, SizeZero, TableLength, ValueRange, Memory}
 use Rattle.sw_models.specs.Text.{kind_word, line_start, line_above, table_text, sizes_text, tables_text, structure_text}
 use Rattle.sw_models.specs.Reading.{Line, Content, IsTableOf, Begins, IsFault, Has, HasText, value_fault, table_fault, fault_of, sizes_in, tables_in, place_below}
+
+positive : (n : ℕ) → 0 < n → nat_lt 0 n ≡ true
+positive n h = grind (arith, nat_tests)
 
 -- a test that has no fault
 passed : (b : Bool) (o : Option StructureError) (e : StructureError) → cond b o (Some e) ≡ None → (b ≡ true) × (o ≡ None)
@@ -90,6 +93,10 @@ record SizesAre (s : Structure) (names : List (List ℕ)) (symbols : List Symbol
   fit : tables_fit (sizes ++ new) symbols tables ≡ true
   text : bytes ≡ sizes_text names new ++ tables_text symbols tables
 
+pub above_both : (start body below lower : List ℕ) → line_above start body below ++ lower ≡ line_above start body (below ++ lower)
+above_both start body below lower =
+    append_assoc start (body ++ 10 ∷ below) lower ∙ ap (λ x. start ++ x) (append_assoc body (10 ∷ below) lower)
+
 one_size : (s : Structure) (name : List ℕ) (names : List (List ℕ)) (symbols : List Symbol) (sizes : List ℕ) (n at : ℕ) (below bytes : List ℕ)
     → Begins (Line.of_sort name) (Content.a_size n) below bytes → fault_of sizes at (Line.of_sort name) (Content.a_size n) ≡ None
     → SizesAre s names symbols (sizes ++ n ∷ []) below → SizesAre s (name ∷ names) symbols sizes bytes
@@ -108,11 +115,7 @@ one_size s name names symbols sizes n at below bytes b e rest =
   where
     not_zero : (n at : ℕ) → cond (nat_eq n 0) (Some (SizeZero at)) None ≡ None → nat_lt 0 n ≡ true
     not_zero zero at e = absurd (none-some (SizeZero at) (sym e))
-    not_zero (suc n) at e = refl
-
-    above_both : (start body below lower : List ℕ) → line_above start body below ++ lower ≡ line_above start body (below ++ lower)
-    above_both start body below lower =
-        append_assoc start (body ++ 10 ∷ below) lower ∙ ap (λ x. start ++ x) (append_assoc body (10 ∷ below) lower)
+    not_zero (suc n) at e = positive (suc n) (omega arith)
 
 sizes_are : (s : Structure) (names : List (List ℕ)) (symbols : List Symbol) (sizes : List ℕ) (at : ℕ) (bytes : List ℕ)
     → Has (Ok s) (map Line.of_sort names ++ map Line.of_symbol symbols) sizes [] at bytes → SizesAre s names symbols sizes bytes

@@ -1,3 +1,4 @@
 pub mod Reading
+pub mod Signatures
 pub mod Steps
 pub mod Text

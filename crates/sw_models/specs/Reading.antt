@@ -12,6 +12,7 @@ use Rattle.sw_logic.specs.Truth.{size_of}
 use Rattle.sw_logic.specs.Fits.{tuple_count, fits}
 use Rattle.sw_models.specs.declared.errors.StructureError.{StructureError}
 use Rattle.sw_models.specs.declared.errors.StructureError.TheVariants.{Syntax, SizeZero, TableLength, ValueRange, Memory}
+use Rattle.sw_models.specs.Signatures.{is_signature}
 use Rattle.sw_models.specs.Text.{table_text, kind_word, line_start, line_above, structure_text}
 
 -- a line that is expected: the first, one of a sort, one of a symbol
@@ -126,10 +127,6 @@ answer_of (Err (TableLength at)) = Some (Err (TableLength at))
 answer_of (Err (ValueRange at)) = Some (Err (ValueRange at))
 answer_of (Err Memory) = None
 
--- the arguments of the symbols are of sorts that there are
-abbrev pub HasSorts : Signature → Type 0
-HasSorts sig = All (λ symbol. All (λ sort. sort < length sig.sorts) symbol.args) sig.symbols
-
 -- a text has one answer
 abbrev pub OneAnswer : Type 0
 OneAnswer = (sig : Signature) (text : List ℕ) (r s : Result Structure StructureError) → HasText sig text r → HasText sig text s → r ≡ s
@@ -137,4 +134,4 @@ OneAnswer = (sig : Signature) (text : List ℕ) (r s : Result Structure Structur
 -- the text of a structure that fits reads back as that structure
 abbrev pub PrintedReadsBack : Type 0
 PrintedReadsBack =
-    (sig : Signature) (s : Structure) → HasSorts sig → fits sig s ≡ true → All IsNumber s.sizes → HasText sig (structure_text sig s) (Ok s)
+    (sig : Signature) (s : Structure) → is_signature sig ≡ true → fits sig s ≡ true → All IsNumber s.sizes → HasText sig (structure_text sig s) (Ok s)

@@ -2,11 +2,13 @@
 #![tactic(auto)]
 
 mod errors;
+mod laws;
 mod printing;
 mod reading;
 #[cfg(test)]
 mod tests;
 
 pub use errors::{BuildError, StructureError};
+pub use laws::{one_answer, printed_reads_back};
 pub use printing::print_structure;
 pub use reading::read_structure;

@@ -7,8 +7,9 @@ ghost use Rattle.sw_logic.specs.declared.structure.Structure.{Structure};
 ghost use Rattle.sw_logic.specs.declared.structure.Table.{Table};
 ghost use Rattle.sw_logic.specs.Fits.{fits};
 ghost use Rattle.sw_models.specs.declared.errors.StructureError.{StructureError};
+ghost use Rattle.sw_models.specs.Signatures.{is_signature};
 ghost use Rattle.sw_models.specs.Text.{bit_digit, others_text, values_text, table_text, kind_word, spaced, line_start, line_above, structure_text};
-ghost use Rattle.sw_models.specs.Reading.{Line, Content, IsNumber, IsTableOf, IsFault, value_fault, table_fault, HasText, HasSorts, answer_of};
+ghost use Rattle.sw_models.specs.Reading.{Line, Content, IsNumber, IsTableOf, IsFault, value_fault, table_fault, HasText, answer_of};
 ghost use Rattle.sw_models.specs.Steps.{IsLine, HasNoLine, InOrder, SizesRead, TablesRead, FailsAt};
 
 use crate::errors::StructureError;
@@ -301,9 +302,8 @@ pub fn read_structure(
 ) -> Result<Structure, StructureError>
     ensures has { IfSome (answer_of result) (HasText sig.now text.now) }
     ensures no_other { (r : Result Structure StructureError) → HasText sig.now text.now r → IfSome (answer_of result) (λ s. s ≡ r) }
-    ensures fits { IfOk result (λ s. fits sig.now s ≡ true) }
-    ensures text { IfOk result (λ s. text.now ≡ structure_text sig.now s) }
-    ensures complete { (s : Structure) → HasSorts sig.now → fits sig.now s ≡ true → All IsNumber s.sizes → text.now ≡ structure_text sig.now s → IfSome (answer_of result) (λ r. r ≡ Ok s) }
+    ensures is { IfOk result (λ s. (fits sig.now s ≡ true) × (text.now ≡ structure_text sig.now s)) }
+    ensures complete { (s : Structure) → is_signature sig.now ≡ true → fits sig.now s ≡ true → All IsNumber s.sizes → text.now ≡ structure_text sig.now s → IfSome (answer_of result) (λ r. r ≡ Ok s) }
 {
     match u32::try_from(text.len()) {
         Ok(end) => read_lines(alloc, sig, end, text),
