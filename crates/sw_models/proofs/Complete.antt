@@ -116,8 +116,8 @@ has_tables r sizes (symbol ∷ symbols) tables (t ∷ new) at e right =
     (record { form = table_form sizes symbol.args symbol.gives symbol.kind t parts.0 (tuple_some sizes symbol.args args right.some) right.numbers; text = refl })
     (table_faultless sizes symbol symbol.kind _ t parts.0)
     (subst P (sym (append-nil sizes))
-      (has_tables r sizes symbols (tables ++ t ∷ []) new _ (e ∙ ap (λ x. Ok (record { sizes = sizes; tables = x })) (sym (append_assoc tables (t ∷ []) new)))
-        (record { fit = parts.1; sorts = sorts.1; some = right.some; numbers = right.numbers })))
+    (has_tables r sizes symbols (tables ++ t ∷ []) new _ (e ∙ ap (λ x. Ok (record { sizes = sizes; tables = x })) (sym (append_assoc tables (t ∷ []) new)))
+    (record { fit = parts.1; sorts = sorts.1; some = right.some; numbers = right.numbers })))
 
 has_sizes : (r : Result Structure StructureError) (all : List ℕ) (names : List (List ℕ)) (symbols : List Symbol) (sizes new : List ℕ) (tables : List Table) (at : ℕ)
     → r ≡ Ok (record { sizes = all; tables = tables }) → Right all symbols tables → all ≡ sizes ++ new → length new ≡ length names
@@ -151,7 +151,7 @@ reads_back sig s sorts fit numbers =
     let P : ℕ → Type 0 = λ n. list_all (is_symbol n) sig.symbols ≡ true in
     Has.next Content.nothing (sizes_text sig.sorts s.sizes ++ tables_text sig.symbols s.tables) (record { form = tt; text = refl }) refl
     (has_sizes (Ok s) s.sizes sig.sorts sig.symbols [] s.sizes s.tables _ refl (record { fit = inner.1; sorts = subst P (sym many) sorts; some = inner.0; numbers = numbers })
-      refl many inner.0 numbers)
+    refl many inner.0 numbers)
 
 -- an answer that the text has is the only one
 pub no_other : (sig : Signature) (text : List ℕ) (r s : Result Structure StructureError) → IfSome (answer_of r) (HasText sig text) → HasText sig text s

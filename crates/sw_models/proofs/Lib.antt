@@ -7,5 +7,7 @@ pub mod Printed
 pub mod Values
 pub mod Whole
 pub mod Sound
+pub mod Tuples
 pub mod Unique
+pub mod Blank
 pub mod Complete

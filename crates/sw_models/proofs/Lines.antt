@@ -49,9 +49,9 @@ pub no_content : (sizes : List ℕ) (at : ℕ) (line : Line) (body below bytes :
     → ((content : Content) → IsOf line content → body ≢ body_of content) → IsFault sizes at line bytes (Syntax at)
 no_content sizes at line body below bytes is not =
     IsFault.missing (λ content lower b.
-      let e = append_cancel_left (start_of line) (body ++ 10 ∷ below) (body_of content ++ 10 ∷ lower) (sym is.text ∙ b.text) in
-      let same = one_body body (body_of content) below lower is.one_line (body_one_line line content b.form) e in
-      not content b.form same.0) refl
+    let e = append_cancel_left (start_of line) (body ++ 10 ∷ below) (body_of content ++ 10 ∷ lower) (sym is.text ∙ b.text) in
+    let same = one_body body (body_of content) below lower is.one_line (body_one_line line content b.form) e in
+    not content b.form same.0) refl
 
 same_table : (kind : SymbolKind) (t u : Table) → IsTableOf kind t → IsTableOf kind u → table_text t ≡ table_text u → t ≡ u
 same_table Relation (Bits bits) (Bits others) is also e = ap Bits (same_bits bits others e)

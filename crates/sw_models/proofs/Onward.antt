@@ -13,7 +13,7 @@ below_at : (end : ℕ) (line : Line) (content : Content) (below rest : List ℕ)
     → (length below ≤ end) × (place_below (end - length rest) line content ≡ end - length below)
 below_at end line content below rest within e =
     let all : length rest ≡ length (start_of line) + (length (body_of content) + suc (length below)) =
-      ap length e ∙ length-append (start_of line) (body_of content ++ 10 ∷ below) ∙ ap (λ n. length (start_of line) + n) (length-append (body_of content) (10 ∷ below)) in
+    ap length e ∙ length-append (start_of line) (body_of content ++ 10 ∷ below) ∙ ap (λ n. length (start_of line) + n) (length-append (body_of content) (10 ∷ below)) in
     (omega arith, omega arith)
 
 pub step : (r : Result Structure StructureError) (end : ℕ) (line : Line) (lines : List Line) (sizes : List ℕ) (tables : List Table) (content : Content) (below rest : List ℕ)
@@ -41,9 +41,9 @@ pub more_sizes : (end : ℕ) (sorts : List (List ℕ)) (i : ℕ) (sizes next res
 more_sizes end sorts i sizes next rest bytes below sort n so_far h e more order = record {
   within = (below_at end (Line.of_sort sort) (Content.a_size n) below rest so_far.within order.begins.text).0;
   goes_on = λ r lines has.
-    let P : List ℕ → Type 0 = λ s. Has r (map Line.of_sort (drop (i + 1) sorts) ++ lines) s [] (end - length below) below in
-    let Q : List Line → Type 0 = λ l. Has r (l ++ lines) sizes [] (end - length rest) rest in
-    so_far.goes_on r lines (subst Q (sym (first_is Line.of_sort sorts i sort h e))
+      let P : List ℕ → Type 0 = λ s. Has r (map Line.of_sort (drop (i + 1) sorts) ++ lines) s [] (end - length below) below in
+      let Q : List Line → Type 0 = λ l. Has r (l ++ lines) sizes [] (end - length rest) rest in
+      so_far.goes_on r lines (subst Q (sym (first_is Line.of_sort sorts i sort h e))
       (step r end (Line.of_sort sort) (map Line.of_sort (drop (i + 1) sorts) ++ lines) sizes [] (Content.a_size n) below rest so_far.within order (subst P more has)));
 }
 
@@ -67,12 +67,12 @@ pub more_tables : (end : ℕ) (symbols : List Symbol) (i : ℕ) (sizes : List �
 more_tables end symbols i sizes tables next rest bytes below symbol table so_far h e more order = record {
   within = (below_at end (Line.of_symbol symbol) (Content.a_table table) below rest so_far.within order.begins.text).0;
   goes_on = λ r lines has.
-    let P : List Table → Type 0 = λ t. Has r (map Line.of_symbol (drop (i + 1) symbols) ++ lines) (sizes ++ []) t (end - length below) below in
-    let R : List ℕ → Type 0 = λ s. Has r (map Line.of_symbol (drop (i + 1) symbols) ++ lines) s next (end - length below) below in
-    let Q : List Line → Type 0 = λ l. Has r (l ++ lines) sizes tables (end - length rest) rest in
-    so_far.goes_on r lines (subst Q (sym (first_is Line.of_symbol symbols i symbol h e))
+      let P : List Table → Type 0 = λ t. Has r (map Line.of_symbol (drop (i + 1) symbols) ++ lines) (sizes ++ []) t (end - length below) below in
+      let R : List ℕ → Type 0 = λ s. Has r (map Line.of_symbol (drop (i + 1) symbols) ++ lines) s next (end - length below) below in
+      let Q : List Line → Type 0 = λ l. Has r (l ++ lines) sizes tables (end - length rest) rest in
+      so_far.goes_on r lines (subst Q (sym (first_is Line.of_symbol symbols i symbol h e))
       (step r end (Line.of_symbol symbol) (map Line.of_symbol (drop (i + 1) symbols) ++ lines) sizes tables (Content.a_table table) below rest so_far.within order
-        (subst P more (subst R (sym (append-nil sizes)) has))));
+      (subst P more (subst R (sym (append-nil sizes)) has))));
 }
 
 pub fail_table : (end : ℕ) (symbols : List Symbol) (i : ℕ) (sizes : List ℕ) (tables : List Table) (rest bytes : List ℕ) (symbol : Symbol) (e : StructureError)

@@ -44,7 +44,7 @@ passes_by p (x ∷ xs) y ys e =
     let rest = passes_by p xs y ys e in
     elim (cases_Bool (p x)) [ inl f ↦ rw f (omega arith) | inr f ↦ rw f (omega arith) ]
 
-past : (n m : ℕ) → cond (nat_lt n m) (Some n) None ≡ None → m ≤ n
+pub past : (n m : ℕ) → cond (nat_lt n m) (Some n) None ≡ None → m ≤ n
 past n m e =
     elim (cases_lt n m) [
       | inl less ↦ let f : nat_lt n m ≡ true = grind (arith, nat_tests) in let g : Some n ≡ None = rw f at e in absurd cc

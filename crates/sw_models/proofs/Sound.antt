@@ -65,9 +65,9 @@ one_table s symbol symbols sizes tables at table below bytes b e rest =
     record {
       new = table ∷ rest.new;
       whole = rest.whole ∙ ap (λ z. record { sizes = z; tables = (tables ++ table ∷ []) ++ rest.new }) same
-        ∙ ap (λ t. record { sizes = sizes; tables = t }) (append_assoc tables (table ∷ []) rest.new);
+          ∙ ap (λ t. record { sizes = sizes; tables = t }) (append_assoc tables (table ∷ []) rest.new);
       fit = and_from (table_fits sizes symbol.args symbol.gives symbol.kind table) (tables_fit sizes symbols rest.new)
-        (table_right sizes symbol symbol.kind at table b.form e) fit;
+          (table_right sizes symbol symbol.kind at table b.form e) fit;
       text = b.text ∙ ap (λ x. line_above (line_start (kind_word symbol.kind) symbol.name) (table_text table) x) rest.text;
     }
 
@@ -148,5 +148,5 @@ is_structure sig text s (Has.next Content.nothing below b g h) =
     let same : t ≡ s = sym are.whole in
     let many : nat_eq (length are.new) (length sig.sorts) ≡ true = let e = are.many in grind (arith, nat_tests) in
     let fit : fits sig t ≡ true =
-      and_from (nat_eq (length are.new) (length sig.sorts)) _ many (and_from (list_all (λ n. nat_lt 0 n) are.new) (tables_fit are.new sig.symbols are.tables) are.some are.fit) in
+    and_from (nat_eq (length are.new) (length sig.sorts)) _ many (and_from (list_all (λ n. nat_lt 0 n) are.new) (tables_fit are.new sig.symbols are.tables) are.some are.fit) in
     (ap (fits sig) (sym same) ∙ fit, b.text ∙ ap (λ x. line_above (codes "structure") [] x) are.text ∙ ap (structure_text sig) same)

@@ -43,10 +43,11 @@ pub one_more_value : (body values next : List ℕ) (k v : ℕ) (word : List ℕ)
 one_more_value body values next k v word more so_far h e is =
     let front : map decimal values ≡ take k (words body) = so_far.0 in
     let last : decimal v ≡ get_or (words body) k word = sym is.0 ∙ e in
-    let P : List ℕ → Type 0 = λ l. All IsNumber l in
-    (ap (map decimal) more ∙ map_push decimal values v ∙ ap (λ l. l ++ decimal v ∷ []) front ∙ ap (λ w. take k (words body) ++ w ∷ []) last
-    ∙ sym (take_more (words body) k word h),
-    subst P (sym more) (All-push IsNumber values v so_far.1 is.1))
+    let P : List ℕ → Type 0 = λ l. All IsNumber l in (
+      ap (map decimal) more ∙ map_push decimal values v ∙ ap (λ l. l ++ decimal v ∷ []) front ∙ ap (λ w. take k (words body) ++ w ∷ []) last
+          ∙ sym (take_more (words body) k word h),
+      subst P (sym more) (All-push IsNumber values v so_far.1 is.1),
+    )
 
 pub values_some : (body values : List ℕ) → map decimal values ≡ words body → values ≢ []
 values_some body values e none =
@@ -88,7 +89,7 @@ values_miss v values c all low other =
     others_miss (v ∷ values) c all low other =
         All-cons (λ b. b ≢ c) 32 (decimal v ++ others_text values) (λ e. other (sym e))
         (All-append (λ b. b ≢ c) (decimal v) (others_text values) (decimal_misses v c (All-head IsNumber v values all) low)
-          (others_miss values c (All-tail IsNumber v values all) low other))
+        (others_miss values c (All-tail IsNumber v values all) low other))
 
 pub bits_miss : (bits : List Bool) (c : ℕ) → c < 48 → All (λ b. b ≢ c) (map bit_digit bits)
 bits_miss [] c low = All-nil (λ b. b ≢ c)

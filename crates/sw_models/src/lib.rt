@@ -1,6 +1,7 @@
 //! Finite structures made by a builder, read from text and printed.
 #![tactic(auto)]
 
+mod builder;
 mod errors;
 mod laws;
 mod printing;
@@ -8,6 +9,7 @@ mod reading;
 #[cfg(test)]
 mod tests;
 
+pub use builder::StructureBuilder;
 pub use errors::{BuildError, StructureError};
 pub use laws::{one_answer, printed_reads_back};
 pub use printing::print_structure;

@@ -6,7 +6,7 @@ pub returns-in_err-table : goal.returns-in_err-table
 returns-in_err-table c =
     handed_on c.from_residual.result _ _ c.in_err-table.field-0.0 c.from_residual.ensures.1
     (λ apart. fail_table c.args.end c.args.symbols.now c.loop-symbol.symbol-index c.args.sizes.now c.loop-symbol.tables c.loop-symbol.rest.now c.args.bytes.now c.symbol-item.result
-      c.in_err-table.field-0.0 c.loop-symbol.invariant c.loop-symbol-test.true c.symbol-item.is (c.in_err-table.ensures apart))
+    c.in_err-table.field-0.0 c.loop-symbol.invariant c.loop-symbol-test.true c.symbol-item.is (c.in_err-table.ensures apart))
 
 pub loop-symbol-preserved : goal.loop-symbol-preserved
 loop-symbol-preserved c =
