@@ -50,10 +50,13 @@ blanks_fit sizes (symbol ∷ symbols) e some =
     and_from (table_fits sizes symbol.args symbol.gives symbol.kind (blank_table (tuple_count sizes symbol.args) symbol.kind)) (tables_fit sizes symbols (blank_tables sizes symbols))
     (blank_fits sizes symbol.args symbol.gives symbol.kind inner.1 some) (blanks_fit sizes symbols parts.1 some)
 
+one_less : (n : ℕ) (sizes : List ℕ) → length (suc n ∷ sizes) ≤ position_or_len (λ m. nat_eq m 0) (suc n ∷ sizes) → length sizes ≤ position_or_len (λ m. nat_eq m 0) sizes
+one_less n sizes h = let e : nat_eq (suc n) 0 ≡ false = grind (arith, nat_tests) in let f = rw e at h in omega (arith, f)
+
 no_zero : (sizes : List ℕ) → length sizes ≤ position_or_len (λ n. nat_eq n 0) sizes → list_all (λ n. nat_lt 0 n) sizes ≡ true
 no_zero [] h = refl
 no_zero (zero ∷ sizes) h = absurd (omega arith)
-no_zero (suc n ∷ sizes) h = ?
+no_zero (suc n ∷ sizes) h = and_from (nat_lt 0 (suc n)) (list_all (λ m. nat_lt 0 m) sizes) (less 0 (suc n) (omega arith)) (no_zero sizes (one_less n sizes h))
 
 -- where no size is 0 the blank structure fits
 pub blank_is_building : (sig : Signature) (sizes : List ℕ) → is_signature sig ≡ true → length sizes ≡ length sig.sorts → first_zero sizes ≡ None
@@ -68,7 +71,12 @@ blank_is_building sig sizes sound many none held =
     and_from (is_signature sig) (counts_fit sizes sig.symbols && fits sig (record { sizes = sizes; tables = tables })) sound
     (and_from (counts_fit sizes sig.symbols) (fits sig (record { sizes = sizes; tables = tables })) held fit)
 
--- one more count that can be held
-pub counts_more : (sizes : List ℕ) (symbols : List Symbol) (i : ℕ) (symbol : Symbol) (count : ℕ) → i < length symbols → symbol ≡ get_or symbols i symbol
-    → (tuple_count sizes symbol.args ≡ count) × (count < 2 ^ 64) → counts_fit sizes (take i symbols) ≡ true → counts_fit sizes (take (i + 1) symbols) ≡ true
-counts_more sizes symbols i symbol count h e held so_far = ?
+-- the same, of what a new builder holds
+pub new_is_building : (sig : Signature) (sizes read again held : List ℕ) (symbols : List Symbol) (tables : List Table) → is_signature sig ≡ true → length sizes ≡ length sig.sorts
+    → first_zero read ≡ None → read ≡ sizes → again ≡ sizes → symbols ≡ sig.symbols → held ≡ sizes → (tables ≡ blank_tables again symbols) × (counts_fit again symbols ≡ true)
+    → is_building (building sig held tables) ≡ true
+new_is_building sig sizes read again held symbols tables sound many none first second third fourth made =
+    let all : tables ≡ blank_tables sizes sig.symbols = made.0 ∙ ap (λ z. blank_tables z symbols) second ∙ ap (blank_tables sizes) third in
+    let fit : counts_fit sizes sig.symbols ≡ true = sym (ap (λ z. counts_fit z symbols) second ∙ ap (counts_fit sizes) third) ∙ made.1 in
+    ap (λ z. is_building (building sig z tables)) fourth ∙ ap (λ t. is_building (building sig sizes t)) all
+    ∙ blank_is_building sig sizes sound many (ap first_zero (sym first) ∙ none) fit

@@ -6,6 +6,7 @@ pub mod Pieces
 pub mod Printed
 pub mod Values
 pub mod Whole
+pub mod Setting
 pub mod Sound
 pub mod Tuples
 pub mod Unique

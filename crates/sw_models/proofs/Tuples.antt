@@ -44,16 +44,24 @@ place_once sizes at other (sort ∷ sorts) (v ∷ values) (w ∷ others) e f g =
     let later : values ≡ others = rest.1 in
     (here.0, cc)
 
--- one more value of a tuple
-pub below_more : (sizes sorts tuple : List ℕ) (i sort value : ℕ) → i < length sorts → i < length tuple → sort ≡ get_or sorts i sort → value ≡ get_or tuple i value
-    → are_below sizes (drop i sorts) (drop i tuple) ≡ (nat_lt value (size_of sizes sort) && are_below sizes (drop (i + 1) sorts) (drop (i + 1) tuple))
-below_more sizes sorts tuple i sort value h also e f =
-    rw (add-one, drop-cons sorts i sort h, drop-cons tuple i value also, ← e, ← f) refl
+at_get : (xs : List ℕ) (i : ℕ) → i < length xs → slice_get xs i ≡ Some (get_or xs i 0)
+at_get [] i h = absurd (omega arith)
+at_get (x ∷ xs) zero h = refl
+at_get (x ∷ xs) (suc i) h = at_get xs i (omega arith)
 
-pub below_end : (sizes sorts tuple : List ℕ) (i : ℕ) → i ≡ length tuple → length tuple ≡ length sorts → (are_below sizes (drop i sorts) (drop i tuple) ≡ true) × ((at : ℕ) → place_from sizes at (drop i sorts) (drop i tuple) ≡ at)
-below_end sizes [] [] zero e f = (refl, λ at. refl)
-below_end sizes [] [] (suc i) e f = absurd (omega arith)
-below_end sizes (sort ∷ sorts) [] i e f = absurd (omega arith)
-below_end sizes [] (v ∷ tuple) i e f = absurd (omega arith)
-below_end sizes (sort ∷ sorts) (v ∷ tuple) zero e f = absurd (omega arith)
-below_end sizes (sort ∷ sorts) (v ∷ tuple) (suc i) e f = below_end sizes sorts tuple i (omega arith) (omega arith)
+-- one more value adds to the place
+pub place_step : (sizes sorts tuple : List ℕ) (i at next : ℕ) → i < length tuple → length tuple ≡ length sorts → get_or tuple i 0 < size_of sizes (get_or sorts i 0)
+    → next ≡ min 18446744073709551615 (at * size_of sizes (get_or sorts i 0) + get_or tuple i 0)
+    → (min 18446744073709551615 (place_from sizes next (drop (i + 1) sorts) (drop (i + 1) tuple)) ≡ min 18446744073709551615 (place_from sizes at (drop i sorts) (drop i tuple)))
+    × (are_below sizes (drop (i + 1) sorts) (drop (i + 1) tuple) ≡ are_below sizes (drop i sorts) (drop i tuple))
+place_step sizes sorts tuple i at next h same small e =
+    let sort = get_or sorts i 0 in
+    let value = get_or tuple i 0 in
+    let here : nat_lt value (size_of sizes sort) ≡ true = tests value (size_of sizes sort) small in
+    let parts : are_below sizes (drop i sorts) (drop i tuple) ≡ (nat_lt value (size_of sizes sort) && are_below sizes (drop (suc i) sorts) (drop (suc i) tuple)) =
+      rw (drop-cons sorts i 0 (omega arith), drop-cons tuple i 0 h) refl in
+    (place_more sizes sorts tuple 18446744073709551615 i at next sort value (at_get sorts i (omega arith)) (at_get tuple i h) e,
+    rw add-one (sym (parts ∙ ap (λ b. b && are_below sizes (drop (suc i) sorts) (drop (suc i) tuple)) here)))
+  where
+    tests : (v s : ℕ) → v < s → nat_lt v s ≡ true
+    tests v s h = grind (arith, nat_tests)
