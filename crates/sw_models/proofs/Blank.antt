@@ -66,8 +66,8 @@ blank_is_building sig sizes sound many none held =
     let P : ℕ → Type 0 = λ n. list_all (is_symbol n) sig.symbols ≡ true in
     let tables = blank_tables sizes sig.symbols in
     let fit : fits sig (record { sizes = sizes; tables = tables }) ≡ true =
-      and_from (nat_eq (length sizes) (length sig.sorts)) (list_all (λ n. nat_lt 0 n) sizes && tables_fit sizes sig.symbols tables) (equal (length sizes) (length sig.sorts) many)
-        (and_from (list_all (λ n. nat_lt 0 n) sizes) (tables_fit sizes sig.symbols tables) some (blanks_fit sizes sig.symbols (subst P (sym many) sound) some)) in
+    and_from (nat_eq (length sizes) (length sig.sorts)) (list_all (λ n. nat_lt 0 n) sizes && tables_fit sizes sig.symbols tables) (equal (length sizes) (length sig.sorts) many)
+    (and_from (list_all (λ n. nat_lt 0 n) sizes) (tables_fit sizes sig.symbols tables) some (blanks_fit sizes sig.symbols (subst P (sym many) sound) some)) in
     and_from (is_signature sig) (counts_fit sizes sig.symbols && fits sig (record { sizes = sizes; tables = tables })) sound
     (and_from (counts_fit sizes sig.symbols) (fits sig (record { sizes = sizes; tables = tables })) held fit)
 

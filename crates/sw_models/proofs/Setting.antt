@@ -94,8 +94,8 @@ is_held : (sig : Signature) (sizes : List ℕ) (tables : List Table) → Holds s
 is_held sig sizes tables h =
     and_from (is_signature sig) (counts_fit sizes sig.symbols && fits sig (record { sizes = sizes; tables = tables })) h.sound
     (and_from (counts_fit sizes sig.symbols) (fits sig (record { sizes = sizes; tables = tables })) h.held
-      (and_from (nat_eq (length sizes) (length sig.sorts)) (list_all (λ n. nat_lt 0 n) sizes && tables_fit sizes sig.symbols tables) h.many
-        (and_from (list_all (λ n. nat_lt 0 n) sizes) (tables_fit sizes sig.symbols tables) h.some h.fit)))
+    (and_from (nat_eq (length sizes) (length sig.sorts)) (list_all (λ n. nat_lt 0 n) sizes && tables_fit sizes sig.symbols tables) h.many
+    (and_from (list_all (λ n. nat_lt 0 n) sizes) (tables_fit sizes sig.symbols tables) h.some h.fit)))
 
 -- there is a table for each symbol
 pub within : (sig : Signature) (sizes : List ℕ) (tables : List Table) (k : ℕ) → is_building (building sig sizes tables) ≡ true → k < length sig.symbols → k < length tables
@@ -130,7 +130,7 @@ no_args (a ∷ args) e = let f : length (a ∷ args) ≡ 0 = eqb-true (length (a
 bare : (sig : Signature) (k : ℕ) (x : Symbol) → is_signature sig ≡ true → slice_get sig.symbols k ≡ Some x → is_of_kind (length sig.sorts) x.kind x.args x.gives ≡ true
 bare sig k x e f =
     (and_parts (list_all (λ sort. nat_lt sort (length sig.sorts)) x.args) (is_of_kind (length sig.sorts) x.kind x.args x.gives)
-      (all_at (is_symbol (length sig.sorts)) sig.symbols k x e f)).1
+    (all_at (is_symbol (length sig.sorts)) sig.symbols k x e f)).1
 
 count_room : (sizes args : List ℕ) (gives sorts at : ℕ) (kind : SymbolKind) (t : Table) → table_fits sizes args gives kind t ≡ true → at < tuple_count sizes args
     → is_of_kind sorts kind args gives ≡ true → at < entry_count t
@@ -252,15 +252,15 @@ is_set sig sizes tables k x t tuple value at h = record {
   signature = refl;
   sizes = refl;
   here =
-    entry_is sig sizes next k x (Some (with_entry t at value)) tuple h.symbol found
-    ∙ ap (λ p. entry_in (Some (with_entry t at value)) p) (sym place.0)
-    ∙ entry_here sizes x.args x.gives at value x.kind t fit h.small (has_room sig sizes tables k x t tuple value at h);
+      entry_is sig sizes next k x (Some (with_entry t at value)) tuple h.symbol found
+      ∙ ap (λ p. entry_in (Some (with_entry t at value)) p) (sym place.0)
+      ∙ entry_here sizes x.args x.gives at value x.kind t fit h.small (has_room sig sizes tables k x t tuple value at h);
   others = λ other values in_range apart.
-    elim (cases_order other k) [
-      | inl same ↦ here other values same in_range (λ e. apart (same, e))
-      | inr (inl less) ↦ elsewhere other values (λ e. omega arith)
-      | inr (inr more) ↦ elsewhere other values (λ e. omega arith)
-    ];
+      elim (cases_order other k) [
+        | inl same ↦ here other values same in_range (λ e. apart (same, e))
+        | inr (inl less) ↦ elsewhere other values (λ e. omega arith)
+        | inr (inr more) ↦ elsewhere other values (λ e. omega arith)
+      ];
 }
   where
     next : List Table
@@ -289,7 +289,7 @@ is_set sig sizes tables k x t tuple value at h = record {
         let P : Option Symbol → Type 0 = λ o. are_below sizes (args_or_none o) values ≡ true in
         entry_is sig sizes (slice_set tables k (with_entry t at value)) other x (Some (with_entry t at value)) values symbol after
         ∙ entry_there sizes x.args x.gives (length sig.sorts) at value x.kind t tuple values fit (bare sig k x (holds sig sizes tables h.built).sound h.symbol) h.in_range
-            (subst P symbol in_range) apart place.0
+        (subst P symbol in_range) apart place.0
         ∙ sym (entry_is sig sizes tables other x (Some t) values symbol before)
 
 pub within_view : (sig : Signature) (sizes : List ℕ) (tables : List Table) (k : ℕ) (b : Building) → is_building (building sig sizes tables) ≡ true → building sig sizes tables ≡ b

@@ -59,9 +59,10 @@ place_step sizes sorts tuple i at next h same small e =
     let value = get_or tuple i 0 in
     let here : nat_lt value (size_of sizes sort) ≡ true = tests value (size_of sizes sort) small in
     let parts : are_below sizes (drop i sorts) (drop i tuple) ≡ (nat_lt value (size_of sizes sort) && are_below sizes (drop (suc i) sorts) (drop (suc i) tuple)) =
-      rw (drop-cons sorts i 0 (omega arith), drop-cons tuple i 0 h) refl in
-    (place_more sizes sorts tuple 18446744073709551615 i at next sort value (at_get sorts i (omega arith)) (at_get tuple i h) e,
-    rw add-one (sym (parts ∙ ap (λ b. b && are_below sizes (drop (suc i) sorts) (drop (suc i) tuple)) here)))
+    rw (drop-cons sorts i 0 (omega arith), drop-cons tuple i 0 h) refl in (
+      place_more sizes sorts tuple 18446744073709551615 i at next sort value (at_get sorts i (omega arith)) (at_get tuple i h) e,
+      rw add-one (sym (parts ∙ ap (λ b. b && are_below sizes (drop (suc i) sorts) (drop (suc i) tuple)) here)),
+    )
   where
     tests : (v s : ℕ) → v < s → nat_lt v s ≡ true
     tests v s h = grind (arith, nat_tests)

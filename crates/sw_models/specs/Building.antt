@@ -19,6 +19,7 @@ pub record Building : Type 0 where
   pub signature : Signature
   pub structure : Structure
 
+-- these, by their parts
 abbrev pub building : Signature → List ℕ → List Table → Building
 building sig sizes tables = record { signature = sig; structure = record { sizes = sizes; tables = tables } }
 
@@ -32,6 +33,7 @@ blank_table count Relation = Bits (replicate count false)
 blank_table count Constant = Value 0
 blank_table count Function = Values (replicate count 0)
 
+-- such a table for each symbol
 abbrev pub blank_tables : List ℕ → List Symbol → List Table
 blank_tables sizes symbols = map (λ symbol. blank_table (tuple_count sizes symbol.args) symbol.kind) symbols
 
@@ -46,7 +48,7 @@ Starts sig sizes (Err Memory) = Unit {0}
 abbrev pub counts_fit : List ℕ → List Symbol → Bool
 counts_fit sizes symbols = list_all (λ symbol. nat_lt (tuple_count sizes symbol.args) (2 ^ 64)) symbols
 
--- it fits a signature that speaks only of its sorts
+-- the signature speaks only of its sorts, and the structure fits it
 abbrev pub is_building : Building → Bool
 is_building b = is_signature b.signature && (counts_fit b.structure.sizes b.signature.symbols && fits b.signature b.structure)
 
@@ -63,6 +65,7 @@ value_count sizes Relation gives = 2
 value_count sizes Constant gives = size_of sizes gives
 value_count sizes Function gives = size_of sizes gives
 
+-- a value that the entries of a symbol may have
 abbrev pub may_have : List ℕ → Option Symbol → ℕ → Bool
 may_have sizes None value = false
 may_have sizes (Some symbol) value = nat_lt value (value_count sizes symbol.kind symbol.gives)
@@ -72,10 +75,11 @@ abbrev pub is_entry : Building → ℕ → List ℕ → ℕ → Bool
 is_entry b symbol tuple value =
     are_below b.structure.sizes (args_of b.signature symbol) tuple && may_have b.structure.sizes (slice_get b.signature.symbols symbol) value
 
--- the value of a symbol at a tuple, 1 for true
+-- what a table has at a place, 1 for true
 abbrev pub entry_in : Option Table → ℕ → ℕ
 entry_in table at = if bit_in table at then 1 else value_in table at
 
+-- the value of a symbol at a tuple, as truth in the structure reads it
 abbrev pub entry : Signature → Structure → ℕ → List ℕ → ℕ
 entry sig s symbol tuple = entry_in (slice_get s.tables symbol) (place (world sig s s) symbol tuple)
 

@@ -3,6 +3,7 @@ use Rattle.std.specs.Prelude.{ℕ, ◌==◌, length, slice_set}
 use Rattle.sw_logic.specs.declared.structure.Table.{Table}
 use Rattle.sw_logic.specs.declared.structure.Table.TheVariants.{Bits, Value, Values}
 
+-- how many entries it has
 abbrev pub entry_count : Table → ℕ
 entry_count (Bits bits) = length bits
 entry_count (Value value) = 1

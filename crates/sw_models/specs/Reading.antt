@@ -27,11 +27,13 @@ pub data Content : Type 0 where
   a_size : ℕ → Content
   a_table : Table → Content
 
+-- how an expected line begins
 abbrev pub start_of : Line → List ℕ
 start_of Line.first = codes "structure"
 start_of (Line.of_sort name) = line_start (codes "size") name
 start_of (Line.of_symbol symbol) = line_start (kind_word symbol.kind) symbol.name
 
+-- what stands after that
 abbrev pub body_of : Content → List ℕ
 body_of Content.nothing = []
 body_of (Content.a_size n) = decimal n
@@ -87,6 +89,7 @@ pub data IsFault (sizes : List ℕ) (at : ℕ) (line : Line) (bytes : List ℕ) 
   missing : ((content : Content) (below : List ℕ) → Begins line content below bytes → ⊥) → e ≡ Syntax at → IsFault sizes at line bytes e
   wrong : (content : Content) (below : List ℕ) → Begins line content below bytes → fault_of sizes at line content ≡ Some e → IsFault sizes at line bytes e
 
+-- the sizes and the tables that a line gives
 abbrev pub sizes_in : Content → List ℕ
 sizes_in (Content.a_size n) = n ∷ []
 sizes_in content = []

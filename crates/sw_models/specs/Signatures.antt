@@ -12,9 +12,10 @@ is_of_kind sorts Relation args gives = true
 is_of_kind sorts Constant args gives = (length args == 0) && nat_lt gives sorts
 is_of_kind sorts Function args gives = nat_lt gives sorts
 
--- arguments are of sorts that there are
+-- arguments are of sorts that there are, and so is a value
 abbrev pub is_symbol : ℕ → Symbol → Bool
 is_symbol sorts symbol = list_all (λ sort. nat_lt sort sorts) symbol.args && is_of_kind sorts symbol.kind symbol.args symbol.gives
 
+-- all symbols are so
 abbrev pub is_signature : Signature → Bool
 is_signature sig = list_all (is_symbol (length sig.sorts)) sig.symbols

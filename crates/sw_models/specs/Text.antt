@@ -24,11 +24,13 @@ abbrev pub values_text : List ℕ → List ℕ
 values_text [] = []
 values_text (value ∷ values) = decimal value ++ others_text values
 
+-- what a table is written as
 abbrev pub table_text : Table → List ℕ
 table_text (Bits bits) = map bit_digit bits
 table_text (Value value) = decimal value
 table_text (Values values) = values_text values
 
+-- the word that the line of such a symbol begins with
 abbrev pub kind_word : SymbolKind → List ℕ
 kind_word Relation = codes "relation"
 kind_word Constant = codes "constant"
@@ -60,6 +62,7 @@ tables_text (symbol ∷ symbols) [] = []
 tables_text (symbol ∷ symbols) (table ∷ tables) =
     line_above (line_start (kind_word symbol.kind) symbol.name) (table_text table) (tables_text symbols tables)
 
+-- the first line, then one for each sort, then one for each symbol
 abbrev pub structure_text : Signature → Structure → List ℕ
 structure_text sig s =
     line_above (codes "structure") [] (sizes_text sig.sorts s.sizes ++ tables_text sig.symbols s.tables)

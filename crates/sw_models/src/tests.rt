@@ -1,5 +1,9 @@
 //! Texts over nodes, their structures and their faults.
-use crate::{StructureError, print_structure, read_structure};
+ghost use Rattle.std.specs.Prelude.{◌≡◌, [], ◌∷◌, true, IfOk, length};
+ghost use Rattle.sw_logic.specs.Truth.{args_of};
+ghost use Rattle.sw_models.specs.Signatures.{is_signature};
+
+use crate::{BuildError, StructureBuilder, StructureError, print_structure, read_structure};
 use sqlite_items::Items;
 use std::alloc::{AllocError, Global};
 use std::process::Abort;
@@ -10,7 +14,9 @@ fn name(alloc: Global, text: &str) -> Result<Name, AllocError> {
     Ok(Name::new(String::from_str(alloc, text)?))
 }
 
-fn symbol(alloc: Global, text: &str, kind: SymbolKind, args: &[u32]) -> Result<Symbol, AllocError> {
+fn symbol(alloc: Global, text: &str, kind: SymbolKind, args: &[u32]) -> Result<Symbol, AllocError>
+    ensures { IfOk result (λ s. (s.kind ≡ kind) × (s.args ≡ args.now) × (s.gives ≡ 0)) }
+{
     Ok(Symbol {
         name: name(alloc, text)?,
         kind,
@@ -21,21 +27,31 @@ fn symbol(alloc: Global, text: &str, kind: SymbolKind, args: &[u32]) -> Result<S
 }
 
 /// A sort `node` with these symbols.
-fn over_nodes(alloc: Global, symbols: Items<Symbol>) -> Result<Signature, AllocError> {
+fn over_nodes(alloc: Global, symbols: Items<Symbol>) -> Result<Signature, AllocError>
+    ensures { IfOk result (λ sig. (length sig.sorts ≡ 1) × (sig.symbols ≡ symbols)) }
+{
     let mut sorts = Items::new(alloc);
     sorts.push(name(alloc, "node")?)?;
     Ok(Signature { sorts, symbols })
 }
 
 /// `sort node; mutable relation p(node);`
-fn one_relation(alloc: Global) -> Result<Signature, AllocError> {
+fn one_relation(alloc: Global) -> Result<Signature, AllocError>
+    ensures sorts { IfOk result (λ sig. length sig.sorts ≡ 1) }
+    ensures symbols { IfOk result (λ sig. (length sig.symbols ≡ 1) × (length (args_of sig 0) ≡ 1)) }
+    ensures sound { IfOk result (λ sig. is_signature sig ≡ true) }
+{
     let mut symbols = Items::new(alloc);
     symbols.push(symbol(alloc, "p", SymbolKind::Relation, &[0])?)?;
     over_nodes(alloc, symbols)
 }
 
 /// `sort node; mutable constant c: node; mutable function f(node): node;`
-fn values(alloc: Global) -> Result<Signature, AllocError> {
+fn values(alloc: Global) -> Result<Signature, AllocError>
+    ensures sorts { IfOk result (λ sig. length sig.sorts ≡ 1) }
+    ensures symbols { IfOk result (λ sig. (length sig.symbols ≡ 2) × (length (args_of sig 0) ≡ 0) × (length (args_of sig 1) ≡ 1)) }
+    ensures sound { IfOk result (λ sig. is_signature sig ≡ true) }
+{
     let mut symbols = Items::new(alloc);
     symbols.push(symbol(alloc, "c", SymbolKind::Constant, &[])?)?;
     symbols.push(symbol(alloc, "f", SymbolKind::Function, &[0])?)?;
@@ -174,5 +190,45 @@ fn a_value_out_of_range_stands_at_its_place(rt: HostRuntime) -> Result<(), Fail>
     for (text, wanted) in faults {
         assert_eq!(rt; fault(rt.alloc(), &sig, text), Some(wanted));
     }
+    Ok(())
+}
+
+#[test]
+fn a_relation_is_set_entry_by_entry(rt: HostRuntime) -> Result<(), Fail> {
+    let sig = one_relation(rt.alloc())?;
+    let sizes = [2].to_vec(rt.alloc())?;
+    let mut builder = StructureBuilder::new(rt.alloc(), &sig, sizes)?;
+    builder.set(0, &[0], 1)?;
+    builder.set(0, &[1], 1)?;
+    builder.set(0, &[0], 0)?;
+    assert_eq!(rt; builder.set(0, &[2], 1), Err(BuildError::ValueRange));
+    assert_eq!(rt; builder.set(0, &[0], 2), Err(BuildError::ValueRange));
+    let text = print_structure(rt.alloc(), &sig, &builder.finish())?;
+    assert_eq!(rt; text.as_str(), "structure\nsize node 2\nrelation p 01\n");
+    Ok(())
+}
+
+#[test]
+fn values_are_set_entry_by_entry(rt: HostRuntime) -> Result<(), Fail> {
+    let sig = values(rt.alloc())?;
+    let sizes = [3].to_vec(rt.alloc())?;
+    let mut builder = StructureBuilder::new(rt.alloc(), &sig, sizes)?;
+    builder.set(0, &[], 2)?;
+    builder.set(1, &[1], 2)?;
+    assert_eq!(rt; builder.set(0, &[], 3), Err(BuildError::ValueRange));
+    let text = print_structure(rt.alloc(), &sig, &builder.finish())?;
+    assert_eq!(rt;
+        text.as_str(),
+        "structure\nsize node 3\nconstant c 2\nfunction f 0 2 0\n"
+    );
+    Ok(())
+}
+
+#[test]
+fn a_size_of_0_is_refused(rt: HostRuntime) -> Result<(), Fail> {
+    let sig = one_relation(rt.alloc())?;
+    let sizes = [0].to_vec(rt.alloc())?;
+    let refused = StructureBuilder::new(rt.alloc(), &sig, sizes).err();
+    assert_eq!(rt; refused, Some(BuildError::SizeZero { sort: 0 }));
     Ok(())
 }
