@@ -1,17 +1,15 @@
 -- A structure with false and 0 for all entries fits.
-use Rattle.std.proofs.Common.{◌≡◌, ◌≢◌, ℕ, zero, suc, ◌+◌, ◌^◌, ◌<◌, ◌≤◌, Bool, true, false, nat_eq, nat_lt, List, [], ◌∷◌, ◌++◌, length, map, take, get_or, Option, Some, None, refl, arith, ◌∙◌, ap, sym, subst, inl, inr}
-use Rattle.std.specs.Prelude.{◌&&◌, replicate, cond}
+use Rattle.std.proofs.Common.{◌≡◌, ℕ, zero, suc, ◌<◌, ◌≤◌, true, false, nat_eq, nat_lt, List, [], ◌∷◌, length, None, refl, arith, ◌∙◌, ap, sym, subst}
+use Rattle.std.specs.Prelude.{◌&&◌, replicate}
 use Rattle.std.specs.List.{list_all, position_or_len}
-use Rattle.std.proofs.lemmas.Bool.{and_from, and_parts, eqb-true, cases_Bool, false≢true}
+use Rattle.std.proofs.lemmas.Bool.{and_from, and_parts}
 use Rattle.std.proofs.lemmas.Bool.Decides.{nat_tests}
-use Rattle.std.proofs.lemmas.List.{length-replicate, take_more, map_push}
+use Rattle.std.proofs.lemmas.List.{length-replicate}
 use Rattle.sw_logic.specs.declared.syntax.SymbolKind.{SymbolKind}
 use Rattle.sw_logic.specs.declared.syntax.SymbolKind.TheVariants.{Relation, Constant, Function}
 use Rattle.sw_logic.specs.declared.syntax.Symbol.{Symbol}
 use Rattle.sw_logic.specs.declared.syntax.Signature.{Signature}
 use Rattle.sw_logic.specs.declared.structure.Table.{Table}
-use Rattle.sw_logic.specs.declared.structure.Table.TheVariants.{Bits, Value, Values}
-use Rattle.sw_logic.specs.declared.structure.Structure.{Structure}
 use Rattle.sw_logic.specs.Truth.{size_of}
 use Rattle.sw_logic.specs.Fits.{tuple_count, table_fits, tables_fit, fits}
 use Rattle.sw_models.specs.Signatures.{is_signature, is_symbol, is_of_kind}

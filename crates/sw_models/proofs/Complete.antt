@@ -1,5 +1,5 @@
 -- The text of a structure that fits has that structure.
-use Rattle.std.proofs.Common.{◌≡◌, ◌≢◌, ℕ, ◌+◌, ◌*◌, ◌^◌, ◌<◌, ◌≤◌, zero, suc, Bool, true, false, cond, nat_eq, nat_lt, List, [], ◌∷◌, ◌++◌, length, map, Option, Some, None, Result, Ok, Err, All, refl, arith, ◌∙◌, ap, sym, subst, append_assoc, append-nil, inl, inr}
+use Rattle.std.proofs.Common.{◌≡◌, ◌≢◌, ℕ, ◌+◌, ◌<◌, zero, suc, true, false, cond, nat_eq, nat_lt, List, [], ◌∷◌, ◌++◌, length, map, Some, None, Result, Ok, Err, All, refl, arith, ◌∙◌, ap, sym, subst, append_assoc, append-nil}
 use Rattle.std.specs.Prelude.{codes, IfSome, IfOk, ◌&&◌}
 use Rattle.std.specs.List.{list_all}
 use Rattle.std.specs.Fmt.{decimal}
@@ -18,8 +18,8 @@ use Rattle.sw_logic.specs.Truth.{size_of}
 use Rattle.sw_logic.specs.Fits.{tuple_count, table_fits, tables_fit, fits}
 use Rattle.sw_models.specs.declared.errors.StructureError.{StructureError}
 use Rattle.sw_models.specs.declared.errors.StructureError.TheVariants.{Syntax, SizeZero, TableLength, ValueRange, Memory}
-use Rattle.sw_models.specs.Text.{kind_word, line_start, line_above, table_text, sizes_text, tables_text, structure_text}
-use Rattle.sw_models.specs.Reading.{Line, Content, IsNumber, IsTableOf, Begins, Has, HasText, value_fault, table_fault, place_below, answer_of}
+use Rattle.sw_models.specs.Text.{line_start, sizes_text, tables_text, structure_text}
+use Rattle.sw_models.specs.Reading.{Line, Content, IsNumber, IsTableOf, Has, HasText, value_fault, table_fault, place_below, answer_of}
 use Rattle.sw_models.specs.Signatures.{is_signature, is_symbol, is_of_kind}
 use Rattle.sw_models.proofs.Sound.{above_both, is_structure}
 use Rattle.sw_models.proofs.Unique.{one_answer}

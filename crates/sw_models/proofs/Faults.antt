@@ -1,15 +1,14 @@
 -- The fault of one line, as it is found.
-use Rattle.std.proofs.Common.{◌≡◌, ◌≢◌, ℕ, zero, ◌+◌, ◌<◌, List, [], ◌∷◌, ◌++◌, length, Option, Some, None, refl, arith, ◌∙◌, ap, sym, subst}
+use Rattle.std.proofs.Common.{◌≡◌, ◌≢◌, ℕ, ◌+◌, List, [], ◌∷◌, ◌++◌, length, Some, refl, arith, ◌∙◌, ap, sym, subst}
 use Rattle.std.specs.Prelude.{codes}
 use Rattle.std.specs.Fmt.{decimal}
 use Rattle.std.proofs.lemmas.List.{length-append}
-use Rattle.sw_logic.specs.declared.syntax.SymbolKind.{SymbolKind}
 use Rattle.sw_logic.specs.declared.syntax.Symbol.{Symbol}
 use Rattle.sw_logic.specs.declared.structure.Table.{Table}
 use Rattle.sw_models.specs.declared.errors.StructureError.{StructureError}
 use Rattle.sw_models.specs.declared.errors.StructureError.TheVariants.{Syntax, SizeZero}
 use Rattle.sw_models.specs.Text.{table_text, line_start, line_above, kind_word}
-use Rattle.sw_models.specs.Reading.{Line, Content, IsTableOf, IsOf, IsNumber, Begins, IsFault, start_of, body_of, table_fault}
+use Rattle.sw_models.specs.Reading.{Line, Content, IsTableOf, IsOf, IsNumber, IsFault, body_of, table_fault}
 use Rattle.sw_models.specs.Steps.{IsLine}
 use Rattle.sw_models.proofs.Lines.{no_content}
 

@@ -1,16 +1,14 @@
 -- A line that is expected is there or not, and in one way.
-use Rattle.std.proofs.Common.{◌≡◌, ◌≢◌, ℕ, zero, suc, ◌+◌, ◌-◌, ◌<◌, ◌≤◌, List, [], ◌∷◌, ◌++◌, length, map, Option, Some, None, All, refl, arith, ◌∙◌, ap, sym, append_assoc}
-use Rattle.std.proofs.lemmas.List.{append_cancel_left, length-append}
+use Rattle.std.proofs.Common.{◌≡◌, ◌≢◌, ℕ, List, [], ◌∷◌, ◌++◌, All, refl, arith, ◌∙◌, ap, sym}
+use Rattle.std.proofs.lemmas.List.{append_cancel_left}
 use Rattle.std.proofs.lemmas.List.Elements.{All-nil}
 use Rattle.sw_logic.specs.declared.syntax.SymbolKind.{SymbolKind}
 use Rattle.sw_logic.specs.declared.syntax.SymbolKind.TheVariants.{Relation, Constant, Function}
-use Rattle.sw_logic.specs.declared.syntax.Symbol.{Symbol}
 use Rattle.sw_logic.specs.declared.structure.Table.{Table}
 use Rattle.sw_logic.specs.declared.structure.Table.TheVariants.{Bits, Value, Values}
-use Rattle.sw_models.specs.declared.errors.StructureError.{StructureError}
-use Rattle.sw_models.specs.declared.errors.StructureError.TheVariants.{Syntax, SizeZero, TableLength, ValueRange, Memory}
-use Rattle.sw_models.specs.Text.{table_text, line_above}
-use Rattle.sw_models.specs.Reading.{Line, Content, IsTableOf, IsOf, IsNumber, Begins, IsFault, start_of, body_of, fault_of}
+use Rattle.sw_models.specs.declared.errors.StructureError.TheVariants.{Syntax}
+use Rattle.sw_models.specs.Text.{table_text}
+use Rattle.sw_models.specs.Reading.{Line, Content, IsTableOf, IsOf, Begins, IsFault, start_of, body_of}
 use Rattle.sw_models.specs.Steps.{IsLine, HasNoLine}
 use Rattle.sw_models.proofs.Numbers.{decimal_misses, same_number}
 use Rattle.sw_models.proofs.Pieces.{one_body}

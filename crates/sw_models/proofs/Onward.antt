@@ -1,13 +1,13 @@
 -- Reading goes on below a line that is in order.
-use Rattle.std.proofs.Common.{◌≡◌, ◌≢◌, ℕ, zero, suc, ◌+◌, ◌-◌, ◌<◌, ◌≤◌, List, [], ◌∷◌, ◌++◌, length, map, drop, get_or, Result, Ok, Err, refl, arith, ◌∙◌, ap, sym, subst, add-one, drop-cons, append-nil}
+use Rattle.std.proofs.Common.{◌≡◌, ℕ, suc, ◌+◌, ◌-◌, ◌<◌, ◌≤◌, List, [], ◌∷◌, ◌++◌, length, map, drop, get_or, Result, Err, refl, arith, ◌∙◌, ap, sym, subst, add-one, drop-cons, append-nil}
 use Rattle.std.proofs.lemmas.List.{length-append}
 use Rattle.sw_logic.specs.declared.syntax.Symbol.{Symbol}
 use Rattle.sw_logic.specs.declared.structure.Table.{Table}
 use Rattle.sw_logic.specs.declared.structure.Structure.{Structure}
 use Rattle.sw_models.specs.declared.errors.StructureError.{StructureError}
 use Rattle.sw_models.specs.Text.{line_above}
-use Rattle.sw_models.specs.Reading.{Line, Content, Begins, IsFault, Has, start_of, body_of, place_below, sizes_in, tables_in}
-use Rattle.sw_models.specs.Steps.{InOrder, FailsAt}
+use Rattle.sw_models.specs.Reading.{Line, Content, IsFault, Has, start_of, body_of, place_below, sizes_in, tables_in}
+use Rattle.sw_models.specs.Steps.{InOrder}
 
 below_at : (end : ℕ) (line : Line) (content : Content) (below rest : List ℕ) → length rest ≤ end → rest ≡ line_above (start_of line) (body_of content) below
     → (length below ≤ end) × (place_below (end - length rest) line content ≡ end - length below)

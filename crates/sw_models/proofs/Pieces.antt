@@ -1,12 +1,11 @@
 -- Bytes that begin with others, and the first line of bytes.
-use Rattle.std.proofs.Common.{◌≡◌, ◌≢◌, ℕ, zero, suc, ◌+◌, ◌-◌, ◌<◌, ◌≤◌, Bool, true, false, cond, nat_eq, nat_lt, List, [], ◌∷◌, ◌++◌, length, take, drop, get_or, Option, Some, None, All, Bor, refl, arith, append_assoc, append-nil, drop-cons, ◌∙◌, ap, sym, inl, inr}
+use Rattle.std.proofs.Common.{◌≡◌, ◌≢◌, ℕ, ◌≤◌, Bool, true, cond, nat_eq, nat_lt, List, [], ◌∷◌, ◌++◌, length, Option, Some, None, All, Bor, refl, arith, append_assoc, ◌∙◌, ap, sym, inl, inr}
 use Rattle.std.specs.Prelude.{MatchOption}
 use Rattle.std.specs.List.{position, position_or_len}
 use Rattle.std.proofs.lemmas.List.{append_cancel_left, length-append}
 use Rattle.std.proofs.lemmas.Bool.Decides.{nat_tests}
-use Rattle.std.proofs.lemmas.List.Elements.{All-from_get_or, All-head, All-tail}
+use Rattle.std.proofs.lemmas.List.Elements.{All-head, All-tail}
 use Rattle.std.proofs.lemmas.Bool.{cases_Bool, cases_lt}
-use Rattle.sw_models.specs.Text.{line_above}
 use Rattle.sw_models.specs.Steps.{IsLine, HasNoLine}
 
 none_after : (p q bytes rest : List ℕ) → bytes ≡ p ++ rest → ((below : List ℕ) → rest ≢ q ++ below) → (below : List ℕ) → bytes ≢ (p ++ q) ++ below

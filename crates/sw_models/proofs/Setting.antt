@@ -1,5 +1,5 @@
 -- What one entry changes.
-use Rattle.std.proofs.Common.{◌≡◌, ◌≢◌, ℕ, zero, suc, ◌+◌, ◌-◌, ◌*◌, ◌^◌, ◌<◌, ◌≤◌, Bool, true, false, cond, nat_eq, nat_lt, List, [], ◌∷◌, length, get_or, min, Option, Some, None, Result, Ok, Err, refl, arith, ◌∙◌, ap, sym, subst, inl, inr, length-set}
+use Rattle.std.proofs.Common.{◌≡◌, ◌≢◌, ℕ, zero, suc, ◌^◌, ◌<◌, Bool, true, false, cond, nat_eq, nat_lt, List, [], ◌∷◌, length, get_or, min, Option, Some, Result, refl, arith, ◌∙◌, ap, sym, subst, inl, inr, length-set}
 use Rattle.std.specs.Prelude.{◌&&◌, ◌==◌, slice_get, slice_set, unwrap_or, if◌then◌else◌}
 use Rattle.std.specs.List.{list_all}
 use Rattle.std.proofs.lemmas.Bool.{and_from, and_parts, eqb-true, cases_order, false≢true}
@@ -11,11 +11,9 @@ use Rattle.sw_logic.specs.declared.syntax.Symbol.{Symbol}
 use Rattle.sw_logic.specs.declared.syntax.Signature.{Signature}
 use Rattle.sw_logic.specs.declared.structure.Table.{Table}
 use Rattle.sw_logic.specs.declared.structure.Table.TheVariants.{Bits, Value, Values}
-use Rattle.sw_logic.specs.declared.structure.Structure.{Structure}
-use Rattle.sw_logic.specs.Truth.{size_of, args_of, args_or_none, place_from, bit_in, value_in}
+use Rattle.sw_logic.specs.Truth.{size_of, args_of, args_or_none, place_from}
 use Rattle.sw_logic.specs.Fits.{tuple_count, table_fits, tables_fit, fits}
 use Rattle.sw_models.specs.declared.errors.BuildError.{BuildError}
-use Rattle.sw_models.specs.declared.errors.BuildError.TheVariants.{ValueRange}
 use Rattle.sw_models.specs.Signatures.{is_signature, is_symbol, is_of_kind}
 use Rattle.sw_models.specs.Building.{Building, building, is_building, counts_fit, are_below, value_count, may_have, is_entry, entry_in, entry, IsSet}
 use Rattle.sw_models.specs.Entries.{entry_count, with_entry}

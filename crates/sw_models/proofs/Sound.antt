@@ -1,9 +1,9 @@
 -- A structure that is read fits, and its text is what was read.
-use Rattle.std.proofs.Common.{◌≡◌, ◌≢◌, ℕ, ◌+◌, ◌<◌, ◌≤◌, zero, suc, Bool, true, false, cond, nat_eq, nat_lt, List, [], ◌∷◌, ◌++◌, length, map, Option, Some, None, Result, Ok, Err, refl, arith, ◌∙◌, ap, sym, subst, append_assoc, append-nil, inl, inr}
+use Rattle.std.proofs.Common.{◌≡◌, ℕ, ◌+◌, ◌<◌, zero, suc, Bool, true, false, cond, nat_eq, nat_lt, List, [], ◌∷◌, ◌++◌, length, map, Option, Some, None, Ok, refl, arith, ◌∙◌, ap, sym, append_assoc, append-nil}
 use Rattle.std.specs.Prelude.{codes}
 use Rattle.std.specs.List.{list_all}
 use Rattle.std.specs.Fmt.{decimal}
-use Rattle.std.proofs.lemmas.Bool.{and_from, cases_Bool, eqb-true}
+use Rattle.std.proofs.lemmas.Bool.{and_from}
 use Rattle.std.proofs.lemmas.Bool.Decides.{nat_tests}
 use Rattle.std.proofs.lemmas.Option.{none-some}
 use Rattle.sw_logic.specs.declared.syntax.SymbolKind.{SymbolKind}
@@ -16,9 +16,9 @@ use Rattle.sw_logic.specs.declared.structure.Structure.{Structure}
 use Rattle.sw_logic.specs.Truth.{size_of}
 use Rattle.sw_logic.specs.Fits.{tuple_count, table_fits, tables_fit, fits}
 use Rattle.sw_models.specs.declared.errors.StructureError.{StructureError}
-use Rattle.sw_models.specs.declared.errors.StructureError.TheVariants.{Syntax, SizeZero, TableLength, ValueRange, Memory}
+use Rattle.sw_models.specs.declared.errors.StructureError.TheVariants.{SizeZero, TableLength, ValueRange}
 use Rattle.sw_models.specs.Text.{kind_word, line_start, line_above, table_text, sizes_text, tables_text, structure_text}
-use Rattle.sw_models.specs.Reading.{Line, Content, IsTableOf, Begins, IsFault, Has, HasText, value_fault, table_fault, fault_of, sizes_in, tables_in, place_below}
+use Rattle.sw_models.specs.Reading.{Line, Content, IsTableOf, Begins, Has, HasText, value_fault, table_fault, fault_of}
 
 positive : (n : ℕ) → 0 < n → nat_lt 0 n ≡ true
 positive n h = grind (arith, nat_tests)

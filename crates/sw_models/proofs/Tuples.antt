@@ -1,14 +1,13 @@
 -- The places of tuples.
-use Rattle.std.proofs.Common.{◌≡◌, ◌≢◌, ℕ, zero, suc, ◌+◌, ◌*◌, ◌<◌, ◌≤◌, Bool, true, false, nat_lt, List, [], ◌∷◌, length, drop, get_or, min, Some, refl, arith, ◌∙◌, ap, sym, drop-cons, add-one}
+use Rattle.std.proofs.Common.{◌≡◌, ℕ, zero, suc, ◌+◌, ◌*◌, ◌<◌, true, nat_lt, List, [], ◌∷◌, length, drop, get_or, min, Some, refl, arith, ◌∙◌, ap, sym, drop-cons, add-one}
 use Rattle.std.specs.Prelude.{◌&&◌, slice_get}
 use Rattle.std.proofs.lemmas.Bool.{and_parts, false≢true}
 use Rattle.std.proofs.lemmas.Bool.Decides.{nat_tests}
 use Rattle.std.proofs.lemmas.Nat.{mul-add-lt, same_from_place}
-use Rattle.std.proofs.lemmas.Option.{slice_get_read}
 use Rattle.std.proofs.Math.Nat.{mul_comm, mul_assoc}
 use Rattle.sw_logic.specs.Truth.{size_of, place_from}
 use Rattle.sw_logic.specs.Fits.{tuple_count}
-use Rattle.sw_logic.proofs.Places.{place_more, drop-none}
+use Rattle.sw_logic.proofs.Places.{place_more}
 use Rattle.sw_models.specs.Building.{are_below}
 use Rattle.sw_models.proofs.Complete.{below}
 

@@ -1,6 +1,6 @@
 -- A text has one answer.
-use Rattle.std.proofs.Common.{◌≡◌, ◌≢◌, ℕ, ◌+◌, List, [], ◌∷◌, ◌++◌, length, Option, Some, None, Result, Ok, Err, refl, ◌∙◌, ap, sym, subst}
-use Rattle.std.proofs.lemmas.Option.{none-some, same_Some}
+use Rattle.std.proofs.Common.{◌≡◌, ℕ, List, [], ◌∷◌, ◌++◌, Some, None, Result, Err, ◌∙◌, ap, sym, subst}
+use Rattle.std.proofs.lemmas.Option.{none-some}
 use Rattle.sw_logic.specs.declared.structure.Table.{Table}
 use Rattle.sw_logic.specs.declared.structure.Structure.{Structure}
 use Rattle.sw_models.specs.declared.errors.StructureError.{StructureError}

@@ -1,4 +1,4 @@
-use Rattle.std.proofs.Common.{arith, rules, ◌∙◌}
+use Rattle.std.proofs.Common.{arith, ◌∙◌}
 use Rattle.sw_models.proofs.Tuples.{place_step}
 use Rattle.sw_models.proofs.builder.place_of.Goals as goal
 

@@ -1,4 +1,4 @@
-use Rattle.std.proofs.Common.{arith, rules}
+use Rattle.std.proofs.Common.{arith}
 use Rattle.sw_models.proofs.Numbers.{one_digit_less, one_digit, ten_digits}
 use Rattle.sw_models.proofs.reading.digit_count.Goals as goal
 

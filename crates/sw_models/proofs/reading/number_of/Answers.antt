@@ -1,4 +1,4 @@
-use Rattle.std.proofs.Common.{arith, rules, refl}
+use Rattle.std.proofs.Common.{refl}
 use Rattle.sw_models.proofs.Numbers.{too_large, one_more}
 use Rattle.sw_models.proofs.reading.number_of.Goals as goal
 

@@ -1,4 +1,3 @@
-use Rattle.std.proofs.Common.{refl, arith}
 use Rattle.sw_models.proofs.Faults.{no_size, zero_size}
 use Rattle.sw_models.proofs.reading.read_size.Goals as goal
 

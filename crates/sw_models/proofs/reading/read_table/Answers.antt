@@ -1,4 +1,4 @@
-use Rattle.std.proofs.Common.{refl, arith}
+use Rattle.std.proofs.Common.{refl}
 use Rattle.sw_models.proofs.Faults.{no_table, wrong_table}
 use Rattle.sw_models.proofs.reading.read_table.Goals as goal
 

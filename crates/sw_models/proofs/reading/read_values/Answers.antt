@@ -1,8 +1,8 @@
-use Rattle.std.proofs.Common.{◌≡◌, ◌∙◌, ℕ, List, take, map, arith, rules, refl, nat_eq, tests, length}
+use Rattle.std.proofs.Common.{rules, nat_eq, tests, length}
 use Rattle.std.proofs.lemmas.Iterator.Splits.{YieldsList-from_slice_split}
 use Rattle.std.proofs.lemmas.Iterator.Consumers.{YieldsList-turn, YieldsList-end}
-use Rattle.std.proofs.lemmas.List.{length_push, take_all}
-use Rattle.sw_models.proofs.Values.{no_values, one_more_value, all_values, words}
+use Rattle.std.proofs.lemmas.List.{length_push}
+use Rattle.sw_models.proofs.Values.{no_values, one_more_value, all_values}
 use Rattle.sw_models.proofs.reading.read_values.Goals as goal
 
 pub returns-in_default : goal.returns-in_default

@@ -1,4 +1,4 @@
-use Rattle.std.proofs.Common.{length, ap, arith}
+use Rattle.std.proofs.Common.{arith}
 use Rattle.sw_models.proofs.Setting.{within_view, target, has_room, answered, written, written_holds}
 use Rattle.sw_models.proofs.builder.StructureBuilder.set.Goals as goal
 
