@@ -58,8 +58,11 @@ fn values(alloc: Global) -> Result<Signature, AllocError>
     over_nodes(alloc, symbols)
 }
 
-fn fault(alloc: Global, sig: &Signature, text: &str) -> Option<StructureError> {
-    read_structure(alloc, sig, text.as_bytes()).err()
+fn refuses(rt: &impl Abort, alloc: Global, sig: &Signature, text: &str, wanted: StructureError) {
+    assert_eq!(rt;
+        read_structure(alloc, sig, text.as_bytes()).err(),
+        Some(wanted)
+    );
 }
 
 #[test]
@@ -89,107 +92,160 @@ fn values_read_and_print_back(rt: HostRuntime) -> Result<(), Fail> {
 #[test]
 fn a_fault_stands_at_its_place(rt: HostRuntime) -> Result<(), Fail> {
     let sig = one_relation(rt.alloc())?;
-    let faults = [
-        ("", StructureError::Syntax { at: 0 }),
-        (
-            "structure\nsize node 0\nrelation p 01\n",
-            StructureError::SizeZero { at: 10 },
-        ),
-        (
-            "structure\nsize node 2\nrelation p 0\n",
-            StructureError::TableLength { at: 33 },
-        ),
-        (
-            "structure\nsize node 2\nrelation p 011\n",
-            StructureError::TableLength { at: 33 },
-        ),
-        (
-            "structure\nsize node 2\nrelation p \n",
-            StructureError::Syntax { at: 22 },
-        ),
-        (
-            "structure\nsize node 2\nrelation p 02\n",
-            StructureError::Syntax { at: 22 },
-        ),
-        (
-            "structure\nsize node 2\nrelation q 01\n",
-            StructureError::Syntax { at: 22 },
-        ),
-        (
-            "structure\nsize node 02\nrelation p 01\n",
-            StructureError::Syntax { at: 10 },
-        ),
-        (
-            "structure\nsize node 4294967296\nrelation p 01\n",
-            StructureError::Syntax { at: 10 },
-        ),
-        (
-            "structure\nsize node 4294967295\nrelation p 01\n",
-            StructureError::TableLength { at: 42 },
-        ),
-        (
-            "structure\nsize node 2\n",
-            StructureError::Syntax { at: 22 },
-        ),
-        (
-            "structure\nsize node 2\nrelation p 01",
-            StructureError::Syntax { at: 22 },
-        ),
-        (
-            "structure\nsize node 2\nrelation p 01\n\n",
-            StructureError::Syntax { at: 36 },
-        ),
-    ];
-    for (text, wanted) in faults {
-        assert_eq!(rt; fault(rt.alloc(), &sig, text), Some(wanted));
-    }
+    refuses(&rt, rt.alloc(), &sig, "", StructureError::Syntax { at: 0 });
+    refuses(
+        &rt,
+        rt.alloc(),
+        &sig,
+        "structure\nsize node 0\nrelation p 01\n",
+        StructureError::SizeZero { at: 10 },
+    );
+    refuses(
+        &rt,
+        rt.alloc(),
+        &sig,
+        "structure\nsize node 2\nrelation p 0\n",
+        StructureError::TableLength { at: 33 },
+    );
+    refuses(
+        &rt,
+        rt.alloc(),
+        &sig,
+        "structure\nsize node 2\nrelation p 011\n",
+        StructureError::TableLength { at: 33 },
+    );
+    refuses(
+        &rt,
+        rt.alloc(),
+        &sig,
+        "structure\nsize node 2\nrelation p \n",
+        StructureError::Syntax { at: 22 },
+    );
+    refuses(
+        &rt,
+        rt.alloc(),
+        &sig,
+        "structure\nsize node 2\nrelation p 02\n",
+        StructureError::Syntax { at: 22 },
+    );
+    refuses(
+        &rt,
+        rt.alloc(),
+        &sig,
+        "structure\nsize node 2\nrelation q 01\n",
+        StructureError::Syntax { at: 22 },
+    );
+    refuses(
+        &rt,
+        rt.alloc(),
+        &sig,
+        "structure\nsize node 02\nrelation p 01\n",
+        StructureError::Syntax { at: 10 },
+    );
+    refuses(
+        &rt,
+        rt.alloc(),
+        &sig,
+        "structure\nsize node 4294967296\nrelation p 01\n",
+        StructureError::Syntax { at: 10 },
+    );
+    refuses(
+        &rt,
+        rt.alloc(),
+        &sig,
+        "structure\nsize node 4294967295\nrelation p 01\n",
+        StructureError::TableLength { at: 42 },
+    );
+    refuses(
+        &rt,
+        rt.alloc(),
+        &sig,
+        "structure\nsize node 2\n",
+        StructureError::Syntax { at: 22 },
+    );
+    refuses(
+        &rt,
+        rt.alloc(),
+        &sig,
+        "structure\nsize node 2\nrelation p 01",
+        StructureError::Syntax { at: 22 },
+    );
+    refuses(
+        &rt,
+        rt.alloc(),
+        &sig,
+        "structure\nsize node 2\nrelation p 01\n\n",
+        StructureError::Syntax { at: 36 },
+    );
     Ok(())
 }
 
 #[test]
 fn a_value_out_of_range_stands_at_its_place(rt: HostRuntime) -> Result<(), Fail> {
     let sig = values(rt.alloc())?;
-    let faults = [
-        (
-            "structure\nsize node 2\nconstant c 2\nfunction f 0 1\n",
-            StructureError::ValueRange { at: 33 },
-        ),
-        (
-            "structure\nsize node 2\nconstant c 1\nfunction f 2 1\n",
-            StructureError::ValueRange { at: 46 },
-        ),
-        (
-            "structure\nsize node 2\nconstant c 1\nfunction f 1 12\n",
-            StructureError::ValueRange { at: 48 },
-        ),
-        (
-            "structure\nsize node 2\nconstant c 1\nfunction f 2\n",
-            StructureError::TableLength { at: 46 },
-        ),
-        (
-            "structure\nsize node 2\nconstant c 1\nfunction f 1 0 1\n",
-            StructureError::TableLength { at: 46 },
-        ),
-        (
-            "structure\nsize node 2\nconstant c 1\nfunction f 1  0\n",
-            StructureError::Syntax { at: 35 },
-        ),
-        (
-            "structure\nsize node 2\nconstant c 1\nfunction f \n",
-            StructureError::Syntax { at: 35 },
-        ),
-        (
-            "structure\nsize node 2\nconstant c 01\nfunction f 0 1\n",
-            StructureError::Syntax { at: 22 },
-        ),
-        (
-            "structure\nsize node 2\nconstant c +1\nfunction f 0 1\n",
-            StructureError::Syntax { at: 22 },
-        ),
-    ];
-    for (text, wanted) in faults {
-        assert_eq!(rt; fault(rt.alloc(), &sig, text), Some(wanted));
-    }
+    refuses(
+        &rt,
+        rt.alloc(),
+        &sig,
+        "structure\nsize node 2\nconstant c 2\nfunction f 0 1\n",
+        StructureError::ValueRange { at: 33 },
+    );
+    refuses(
+        &rt,
+        rt.alloc(),
+        &sig,
+        "structure\nsize node 2\nconstant c 1\nfunction f 2 1\n",
+        StructureError::ValueRange { at: 46 },
+    );
+    refuses(
+        &rt,
+        rt.alloc(),
+        &sig,
+        "structure\nsize node 2\nconstant c 1\nfunction f 1 12\n",
+        StructureError::ValueRange { at: 48 },
+    );
+    refuses(
+        &rt,
+        rt.alloc(),
+        &sig,
+        "structure\nsize node 2\nconstant c 1\nfunction f 2\n",
+        StructureError::TableLength { at: 46 },
+    );
+    refuses(
+        &rt,
+        rt.alloc(),
+        &sig,
+        "structure\nsize node 2\nconstant c 1\nfunction f 1 0 1\n",
+        StructureError::TableLength { at: 46 },
+    );
+    refuses(
+        &rt,
+        rt.alloc(),
+        &sig,
+        "structure\nsize node 2\nconstant c 1\nfunction f 1  0\n",
+        StructureError::Syntax { at: 35 },
+    );
+    refuses(
+        &rt,
+        rt.alloc(),
+        &sig,
+        "structure\nsize node 2\nconstant c 1\nfunction f \n",
+        StructureError::Syntax { at: 35 },
+    );
+    refuses(
+        &rt,
+        rt.alloc(),
+        &sig,
+        "structure\nsize node 2\nconstant c 01\nfunction f 0 1\n",
+        StructureError::Syntax { at: 22 },
+    );
+    refuses(
+        &rt,
+        rt.alloc(),
+        &sig,
+        "structure\nsize node 2\nconstant c +1\nfunction f 0 1\n",
+        StructureError::Syntax { at: 22 },
+    );
     Ok(())
 }
 
