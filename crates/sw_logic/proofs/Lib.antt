@@ -1,6 +1,6 @@
 mod Counting
 mod Matching
-mod Places
+pub mod Places
 mod Quantifiers
 mod Ranges
 mod Steps

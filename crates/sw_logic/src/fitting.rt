@@ -7,7 +7,8 @@ ghost use Rattle.sw_logic.specs.Fits.{tuple_count, table_fits, tables_fit, fits,
 use crate::structure::{Pair, Structure, Table};
 use crate::syntax::{Signature, Symbol, SymbolKind};
 
-fn size_at(sizes: &[u32], sort: u32) -> u32
+/// The size of a sort, and 0 where there is none.
+pub fn size_at(sizes: &[u32], sort: u32) -> u32
     ensures { result ≡ size_of sizes.now sort }
 {
     match sizes.get(sort as usize) {
@@ -17,7 +18,7 @@ fn size_at(sizes: &[u32], sort: u32) -> u32
 }
 
 /// How many tuples of these sorts there are, no further than the largest number.
-fn count_tuples(sizes: &[u32], sorts: &[u32]) -> u128
+pub fn count_tuples(sizes: &[u32], sorts: &[u32]) -> u128
     ensures { result ≡ min (2 ^ 128 - 1) (tuple_count sizes.now sorts.now) }
 {
     let mut count: u128 = 1;

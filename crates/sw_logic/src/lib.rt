@@ -15,7 +15,7 @@ pub mod variables;
 
 pub use copy::{copy_formula, copy_structure};
 pub use evaluate::{holds, holds_pair};
-pub use fitting::{fits, fits_pair};
+pub use fitting::{count_tuples, fits, fits_pair, size_at};
 pub use laws::quantifiers_range;
 pub use sorting::well_sorted;
 pub use structure::{Pair, Structure, Table};

@@ -1,0 +1,14 @@
+pub mod Faults
+pub mod Lines
+pub mod Numbers
+pub mod Onward
+pub mod Pieces
+pub mod Printed
+pub mod Values
+pub mod Whole
+pub mod Setting
+pub mod Sound
+pub mod Tuples
+pub mod Unique
+pub mod Blank
+pub mod Complete

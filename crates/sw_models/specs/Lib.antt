@@ -1,0 +1,6 @@
+pub mod Building
+pub mod Entries
+pub mod Reading
+pub mod Signatures
+pub mod Steps
+pub mod Text
