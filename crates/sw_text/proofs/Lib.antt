@@ -8,3 +8,5 @@ pub mod Answering
 pub mod OneAnswer
 pub mod Breaking
 pub mod Folding
+pub mod SortedTerms
+pub mod WellSorted

@@ -1,7 +1,12 @@
 //! Laws about the definitions: each is the contract of a function that does nothing.
-ghost use Rattle.sw_text.specs.Laws.{OneAnswer};
+ghost use Rattle.sw_text.specs.Laws.{OneAnswer, ReadIsWellSorted};
 
 /// A list of words has one answer.
 pub fn one_answer()
     ensures { OneAnswer }
+{}
+
+/// A formula that breaks no rule on names and sorts is well sorted.
+pub fn read_is_well_sorted()
+    ensures { ReadIsWellSorted }
 {}

@@ -240,6 +240,19 @@ fn each_limit_is_met_at_its_word(rt: HostRuntime) -> Result<(), Fail> {
         reading(alloc, chain.as_str(), NOTHING)?.as_str(),
         "TooDeep 259",
     );
+    let body = repeated(alloc, "forall X: s. ", "a", "", 31)?;
+    let bracketed = repeated(alloc, "!", body.as_str(), "", 224)?;
+    ends_with_count(
+        &rt,
+        reading(alloc, bracketed.as_str(), NOTHING)?.as_str(),
+        "380 (not ",
+    );
+    let bracketed = repeated(alloc, "!", body.as_str(), "", 225)?;
+    ends_with_count(
+        &rt,
+        reading(alloc, bracketed.as_str(), NOTHING)?.as_str(),
+        "TooDeep 381",
+    );
     let inner = repeated(alloc, "a <-> (", "a", ")", 5)?;
     ends_with_count(
         &rt,
