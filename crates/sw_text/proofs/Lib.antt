@@ -10,3 +10,4 @@ pub mod Breaking
 pub mod Folding
 pub mod SortedTerms
 pub mod WellSorted
+pub mod OneFormula

@@ -9,3 +9,4 @@ pub mod Answers
 pub mod Laws
 pub mod Names
 pub mod Resolving
+pub mod Texts

@@ -1,5 +1,6 @@
 //! Laws about the definitions: each is the contract of a function that does nothing.
 ghost use Rattle.sw_text.specs.Laws.{OneAnswer, ReadIsWellSorted};
+ghost use Rattle.sw_text.specs.Texts.{OneFormula};
 
 /// A list of words has one answer.
 pub fn one_answer()
@@ -9,4 +10,9 @@ pub fn one_answer()
 /// A formula that breaks no rule on names and sorts is well sorted.
 pub fn read_is_well_sorted()
     ensures { ReadIsWellSorted }
+{}
+
+/// A text has one answer, but for want of memory.
+pub fn one_formula()
+    ensures { OneFormula }
 {}

@@ -7,19 +7,21 @@ pub mod laws;
 pub mod limits;
 pub mod machine;
 pub mod measures;
-#[cfg(test)]
-mod name_tests;
 pub mod names;
 pub mod reader;
 pub mod resolve;
 pub mod stack;
 #[cfg(test)]
 mod tests;
+#[cfg(test)]
+mod text_tests;
+pub mod texts;
 pub mod tree;
 pub mod words;
 
 pub use names::{Names, Place, Rule, Violation};
 pub use reader::{Around, Read, read_tree};
 pub use resolve::Resolved;
+pub use texts::{TextError, read_formula};
 pub use tree::{Binder, TermTree, Tree};
 pub use words::{Sign, Word};

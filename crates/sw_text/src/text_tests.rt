@@ -1,14 +1,10 @@
-//! Which rule on names and sorts a formula breaks first, and where.
-use crate::names::{Names, Place, Violation};
-use crate::resolve::Resolved;
-use crate::words::words_of;
-use crate::{Around, Read, read_tree};
+//! What whole texts have: a formula, or the first fault and its place.
+use crate::{Names, Place, TextError, Violation, read_formula};
 use sqlite_items::Items;
 use std::alloc::{AllocError, Global};
 use std::process::Abort;
 use std::test::Fail;
-use sw_logic::{Name, Signature, Symbol, SymbolKind};
-use sw_scan::scan;
+use sw_logic::{Binder, Name, Signature, Symbol, SymbolKind};
 
 fn name(alloc: Global, text: &str) -> Result<Name, AllocError> {
     Ok(Name::new(String::from_str(alloc, text)?))
@@ -46,30 +42,32 @@ fn signature(alloc: Global) -> Result<Signature, AllocError> {
     Ok(Signature { sorts, symbols })
 }
 
-// `ok`, or the rule that is broken first and its place.
+// `_1`, of sort n.
+fn variables(alloc: Global) -> Result<Vec<Binder>, AllocError> {
+    let mut variables = Vec::new(alloc);
+    variables.push(Binder {
+        name: name(alloc, "_1")?,
+        sort: 0,
+    })?;
+    Ok(variables)
+}
+
+// `ok`, or the first fault and its place; with `_1` in scope.
 fn checked(alloc: Global, text: &str, place: &Place) -> Result<String, AllocError> {
     let signature = signature(alloc)?;
-    let bytes = text.as_bytes();
-    let Ok(tokens) = scan(alloc, bytes) else {
-        return String::from_str(alloc, "no tokens");
-    };
-    let words = words_of(alloc, bytes, tokens.as_slice())?;
-    let nothing = Around {
-        nestings: 0,
-        variables: 0,
-    };
-    let Read::Formula(tree, _) = read_tree(alloc, words.as_slice(), nothing)? else {
-        return String::from_str(alloc, "no formula");
-    };
     let names = Names {
-        text: bytes,
+        text: text.as_bytes(),
         signature: &signature,
         declared_too: &[],
         place,
     };
-    match names.formula(alloc, &mut Vec::new(alloc), &tree)? {
-        Resolved::Found(_) => String::from_str(alloc, "ok"),
-        Resolved::Broken(Violation { rule, at }) => format!(in alloc; "{rule:?} at {at}"),
+    match read_formula(alloc, &names, variables(alloc)?) {
+        Ok(_) => String::from_str(alloc, "ok"),
+        Err(TextError::BadByte { at }) => format!(in alloc; "BadByte at {at}"),
+        Err(TextError::Syntax { at }) => format!(in alloc; "Syntax at {at}"),
+        Err(TextError::TooDeep { at }) => format!(in alloc; "TooDeep at {at}"),
+        Err(TextError::Broken(Violation { rule, at })) => format!(in alloc; "{rule:?} at {at}"),
+        Err(TextError::Memory) => String::from_str(alloc, "Memory"),
     }
 }
 
@@ -132,5 +130,30 @@ fn axioms_and_transitions_have_rules_of_their_own(rt: HostRuntime) -> Result<(),
     ];
     let modifies = Place::Step(Items::from_slice(alloc, &[1])?);
     breaks(&rt, alloc, &modifies, steps.as_slice())?;
+    Ok(())
+}
+
+#[test]
+fn a_text_is_one_formula_and_no_more(rt: HostRuntime) -> Result<(), Fail> {
+    let rows = [
+        ("p(_1) & q(_1, d) # and so on", "ok"),
+        ("exists X: n. p(X) -> X = _1", "ok"),
+        ("", "Syntax at 0"),
+        ("a & # no more", "Syntax at 13"),
+        ("a a", "Syntax at 2"),
+        ("p(_1) )", "Syntax at 6"),
+        ("a @ ;", "BadByte at 2"),
+        ("zz - zz zz", "BadByte at 3"),
+        ("a = zz zz", "Syntax at 7"),
+        ("p(_2)", "Unknown at 2"),
+        ("exists _1: n. a", "Twice at 7"),
+        (
+            "a <-> (a <-> (a <-> (a <-> (a <-> (a <-> zz)))))",
+            "TooDeep at 37",
+        ),
+        ("_1", "SortMismatch at 0"),
+        ("p'(_1)", "PostState at 0"),
+    ];
+    breaks(&rt, rt.alloc(), &Place::OneState, rows.as_slice())?;
     Ok(())
 }
