@@ -1,0 +1,4 @@
+pub mod Answers
+pub mod Declaring
+pub mod Grammar
+pub mod Texts

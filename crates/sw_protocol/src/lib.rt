@@ -1,0 +1,13 @@
+//! Protocols as text: which words spell one, what their names stand for, and canonical text.
+#![tactic(auto)]
+
+pub mod parsing;
+pub mod printing;
+pub mod texts;
+pub mod tree;
+
+pub use parsing::{Parsed, parse};
+pub use printing::print_protocol;
+pub use sw_meaning::{Decl, Protocol, Transition};
+pub use texts::{ProtocolError, read_protocol};
+pub use tree::{Declaration, Heading, Statement};
