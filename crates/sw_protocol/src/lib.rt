@@ -1,6 +1,8 @@
 //! Protocols as text: which words spell one, what their names stand for, and canonical text.
 #![tactic(auto)]
 
+pub mod declaring;
+pub mod draft;
 pub mod parsing;
 pub mod printing;
 pub mod texts;

@@ -1,0 +1,3 @@
+pub mod Looking
+pub mod OneParse
+pub mod OneProtocol
