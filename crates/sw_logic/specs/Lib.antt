@@ -1,3 +1,4 @@
+pub mod Canonical
 pub mod Fits
 pub mod InScope
 pub mod Sorted

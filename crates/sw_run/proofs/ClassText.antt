@@ -13,7 +13,8 @@ use Rattle.sw_meaning.specs.Small.{IsSmall, small_template}
 use Rattle.sw_meaning.specs.Plain.{PlainList, formulas_of}
 use Rattle.sw_meaning.specs.Inductive.{Earned, Closed}
 use Rattle.sw_meaning.specs.Verdict.{Verdict}
-use Rattle.sw_meaning.specs.Report.{Shown, shown, bare, in_brackets, applied, joined, text_of, line, word_text}
+use Rattle.sw_logic.specs.Canonical.{Shown, shown, bare, in_brackets, applied, joined, text_of}
+use Rattle.sw_meaning.specs.Report.{line, word_text}
 use Rattle.sw_meaning.proofs.Bodies.{AllBelow}
 use Rattle.sw_meaning.proofs.SmallCover.{literal, class_formula}
 use Rattle.sw_breadth.specs.Word.{word_of}

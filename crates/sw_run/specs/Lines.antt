@@ -2,7 +2,8 @@
 use Rattle.std.specs.Prelude.{◌==◌, ℕ, ◌%◌, ◌/◌, List, [], ◌∷◌, ◌++◌, slice_get, if◌then◌else◌, codes}
 use Rattle.std.specs.List.{flat_map}
 use Rattle.sw_logic.specs.declared.syntax.Signature.{Signature}
-use Rattle.sw_meaning.specs.Report.{line, name_or_none}
+use Rattle.sw_logic.specs.Canonical.{name_or_none}
+use Rattle.sw_meaning.specs.Report.{line}
 use Rattle.sw_breadth.specs.declared.verdict.SmallVerdict.{SmallVerdict}
 use Rattle.sw_breadth.specs.declared.verdict.SmallVerdict.TheVariants.{Violated, Safe, Open}
 

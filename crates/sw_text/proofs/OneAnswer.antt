@@ -106,7 +106,7 @@ pub record Ended (base : Context) (ws : List Word) (r : Read) : Type 0 where
 
 goes_not : (base : Context) (ws : List Word) (n m : ℕ) (u v : State) → HasRead base ws n u → HasRead base ws m v → StopsAt base ws n → n < m → ⊥
 goes_not base ws n m u v k l stops h =
-    let d : Word = made Sign.Other in
+    let d : Word = made Sign.Number in
     let p = taken_before base ws n m u v d h k l in
     let none : Some p.0 ≡ None = stops_there base ws n u k stops (omega (arith, h, l.begins.within)) d (Some p.0) p.1 in
     cc

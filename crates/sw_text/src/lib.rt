@@ -24,4 +24,4 @@ pub use reader::{Around, Read, read_tree};
 pub use resolve::Resolved;
 pub use texts::{TextError, read_formula};
 pub use tree::{Binder, TermTree, Tree};
-pub use words::{Sign, Word};
+pub use words::{Keyword, Sign, Word, bytes_of, words_of};

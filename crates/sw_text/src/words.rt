@@ -1,13 +1,28 @@
 //! Words: the tokens of a text with what each is in a formula, so that keywords are told from names.
 ghost use Rattle.std.specs.Prelude.{◌≡◌, take, drop, map, IfOk};
-ghost use Rattle.std.specs.List.{list_any};
 ghost use Rattle.std.specs.Str.{bytes_eq};
-ghost use Rattle.sw_text.specs.Words.{sign_of, name_sign, declaration_keywords, word_of};
+ghost use Rattle.sw_text.specs.Words.{sign_of, name_sign, keyword_of, word_of};
 
 use std::alloc::{AllocError, Global};
 use sw_scan::{Kind, Token};
 
-/// What a word is in a formula. Numbers, semicolons and the keywords of declarations are `Other`.
+/// A keyword that stands in declarations and in no formula.
+#[derive(Clone, Copy, Debug, PartialEq, Eq)]
+pub enum Keyword {
+    Sort,
+    Immutable,
+    Mutable,
+    Relation,
+    Constant,
+    Function,
+    Axiom,
+    Init,
+    Transition,
+    Modifies,
+    Safety,
+}
+
+/// What a word is. No formula has a number, a semicolon or a keyword of declarations.
 #[derive(Clone, Copy, Debug, PartialEq, Eq)]
 pub enum Sign {
     Name,
@@ -28,7 +43,9 @@ pub enum Sign {
     Exists,
     True,
     False,
-    Other,
+    Keyword(Keyword),
+    Semicolon,
+    Number,
 }
 
 /// A token with its sign.
@@ -52,21 +69,35 @@ fn is_word(bytes: &[u8], word: &str) -> bool
     bytes == word.as_bytes()
 }
 
-/// Whether these bytes are a keyword that stands in declarations.
-fn is_declaration_keyword(bytes: &[u8]) -> bool
-    ensures { result ≡ list_any (bytes_eq bytes.now) declaration_keywords }
+/// The keyword of declarations that these bytes are.
+fn keyword_of(bytes: &[u8]) -> Option<Keyword>
+    ensures { result ≡ keyword_of bytes.now }
 {
-    is_word(bytes, "sort")
-        || is_word(bytes, "immutable")
-        || is_word(bytes, "mutable")
-        || is_word(bytes, "relation")
-        || is_word(bytes, "constant")
-        || is_word(bytes, "function")
-        || is_word(bytes, "axiom")
-        || is_word(bytes, "init")
-        || is_word(bytes, "transition")
-        || is_word(bytes, "modifies")
-        || is_word(bytes, "safety")
+    if is_word(bytes, "sort") {
+        Some(Keyword::Sort)
+    } else if is_word(bytes, "immutable") {
+        Some(Keyword::Immutable)
+    } else if is_word(bytes, "mutable") {
+        Some(Keyword::Mutable)
+    } else if is_word(bytes, "relation") {
+        Some(Keyword::Relation)
+    } else if is_word(bytes, "constant") {
+        Some(Keyword::Constant)
+    } else if is_word(bytes, "function") {
+        Some(Keyword::Function)
+    } else if is_word(bytes, "axiom") {
+        Some(Keyword::Axiom)
+    } else if is_word(bytes, "init") {
+        Some(Keyword::Init)
+    } else if is_word(bytes, "transition") {
+        Some(Keyword::Transition)
+    } else if is_word(bytes, "modifies") {
+        Some(Keyword::Modifies)
+    } else if is_word(bytes, "safety") {
+        Some(Keyword::Safety)
+    } else {
+        None
+    }
 }
 
 /// What a name or a keyword is.
@@ -81,10 +112,11 @@ fn name_sign(bytes: &[u8]) -> Sign
         Sign::True
     } else if is_word(bytes, "false") {
         Sign::False
-    } else if is_declaration_keyword(bytes) {
-        Sign::Other
     } else {
-        Sign::Name
+        match keyword_of(bytes) {
+            Some(keyword) => Sign::Keyword(keyword),
+            None => Sign::Name,
+        }
     }
 }
 
@@ -107,7 +139,8 @@ pub fn sign_of(text: &[u8], token: &Token) -> Sign
         Kind::Or => Sign::Or,
         Kind::Arrow => Sign::Arrow,
         Kind::DoubleArrow => Sign::DoubleArrow,
-        Kind::Number | Kind::Semicolon => Sign::Other,
+        Kind::Number => Sign::Number,
+        Kind::Semicolon => Sign::Semicolon,
     }
 }
 
