@@ -11,3 +11,4 @@ pub mod Folding
 pub mod SortedTerms
 pub mod WellSorted
 pub mod OneFormula
+pub mod Joined

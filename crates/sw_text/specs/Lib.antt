@@ -10,3 +10,4 @@ pub mod Laws
 pub mod Names
 pub mod Resolving
 pub mod Texts
+pub mod Printing
