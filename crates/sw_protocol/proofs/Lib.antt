@@ -1,3 +1,4 @@
 pub mod Looking
 pub mod OneParse
 pub mod OneProtocol
+pub mod Rows
