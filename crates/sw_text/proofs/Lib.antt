@@ -10,5 +10,6 @@ pub mod Breaking
 pub mod Folding
 pub mod SortedTerms
 pub mod WellSorted
+pub mod FewVariables
 pub mod OneFormula
 pub mod Joined
