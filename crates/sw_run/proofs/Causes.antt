@@ -10,10 +10,12 @@ use Rattle.sw_protocol.specs.Texts.{HasProtocol, IsText, OneProtocol}
 use Rattle.sw_words.specs.declared.commands.Command.{Command}
 use Rattle.sw_words.specs.declared.commands.Command.TheVariants.{Synth, Print}
 use Rattle.sw_words.specs.declared.commands.Options.{Options}
-use Rattle.sw_run.specs.Words.{is_plain, is_served, is_check, asks_check}
+use Rattle.sw_meaning.specs.Space.{Template}
+use Rattle.sw_meaning.specs.Small.{IsSmall}
+use Rattle.sw_run.specs.Words.{NamesBy, is_plain, is_served, asks_check}
 use Rattle.sw_run.specs.Refusals.{input_refusal}
 use Rattle.sw_run.specs.Ending.{Change, Answer, Misreads, Reads, Searches, Reports, Prints, IsInput, IsSpelled, IsUnbuilt, IsTooLong, IsUntouched, Allowed, AllowedCheck, refused}
-use Rattle.sw_run.specs.Laws.{Tells, LacksMemory, IsRefusedUnread, WordsChoose, InputChooses, RowsExcludeEachOther}
+use Rattle.sw_run.specs.Laws.{Tells, LacksMemory, IsRefusedUnread, WordsChoose, InputChooses, SearchChooses, RowsExcludeEachOther}
 use Rattle.sw_run.specs.declared.input.TheConstants.{INPUT_LIMIT}
 use Rattle.sw_run.specs.declared.told.Refusal.TheVariants.{Usage, TooLong, Unbuilt, ReadFault, NoMemory}
 
@@ -175,10 +177,22 @@ pub not_unbuilt : (options : Options) (p : Protocol) (a : Answer) → Reports op
 not_unbuilt options p a r (inl large) = large r.small
 not_unbuilt options p a r (inr none) = none r.template r.named
 
+search_chooses : (options : Options) (p : Protocol) (a : Answer) → SearchChooses options p a
+search_chooses options p a = record { report = reported; unbuilt = refused_so }
+  where
+    reported : (t : Option Template) → IsSmall p → NamesBy options.breadth t → Searches options p a → Reports options p a
+    reported t small named (Searches.report r) = r
+    reported t small named (Searches.unbuilt (inl large) is) = absurd (large small)
+    reported t small named (Searches.unbuilt (inr none) is) = absurd (none t named)
+
+    refused_so : IsUnbuilt options p → Searches options p a → a ≡ refused Unbuilt
+    refused_so cause (Searches.report r) = absurd (not_unbuilt options p a r cause)
+    refused_so cause (Searches.unbuilt other is) = is
+
 pub rows_exclude : OneProtocol → RowsExcludeEachOther
 rows_exclude one = (
   words_choose,
   λ options input bytes a told. input_chooses input bytes told one (Searches options) a,
   λ input bytes a told. input_chooses input bytes told one Prints a,
-  not_unbuilt,
+  search_chooses,
 )

@@ -6,14 +6,14 @@ use Rattle.sw_run.specs.declared.told.Refusal.{Refusal}
 use Rattle.sw_run.specs.declared.told.Refusal.TheVariants.{NoMemory}
 use Rattle.sw_run.specs.declared.report.Report.{Report}
 use Rattle.sw_run.specs.Refusals.{refusal_line, refusal_status}
-use Rattle.sw_run.specs.Ending.{Answer, Ends, Writes, Tells, IsOrLacksMemory, change, answer_of, refused, Change}
+use Rattle.sw_run.specs.Ending.{Answer, Ends, Writes, TellsRefusal, IsOrLacksMemory, change, answer_of, refused, Change}
 
 -- a line that was written is that of its refusal
-pub tells_line : (e r : Refusal) (err : Change) (status : ℕ) → e ≡ r → Writes err (refusal_line r) (refusal_status r) status → Tells e err status
-tells_line e r err status is writes = subst (λ x. Tells x err status) (sym is) (Tells.its_line writes)
+pub tells_line : (e r : Refusal) (err : Change) (status : ℕ) → e ≡ r → Writes err (refusal_line r) (refusal_status r) status → TellsRefusal e err status
+tells_line e r err status is writes = subst (λ x. TellsRefusal x err status) (sym is) (TellsRefusal.its_line writes)
 
-pub tells_as : (e r : Refusal) (err : Change) (status : ℕ) → e ≡ r → Tells r err status → Tells e err status
-tells_as e r err status is tells = subst (λ x. Tells x err status) (sym is) tells
+pub tells_as : (e r : Refusal) (err : Change) (status : ℕ) → e ≡ r → TellsRefusal r err status → TellsRefusal e err status
+tells_as e r err status is tells = subst (λ x. TellsRefusal x err status) (sym is) tells
 
 gains_nothing : (held : Option (List ℕ)) → Gains held held []
 gains_nothing None = refl
@@ -31,13 +31,13 @@ module _ (before now other : Option (List ℕ)) (f g h status : ℕ) where
   report_ends told r is writes = subst (λ t. Ends (IsOrLacksMemory (answer_of t)) (change before now f g) (change other other h h) status) (sym is) (report_written r writes)
 
   -- a refusal was told to `err`
-  refusal_told : (e : Refusal) → Tells e (change before now f g) status → Ends (IsOrLacksMemory (refused e)) (change other other h h) (change before now f g) status
-  refusal_told e (Tells.its_line (Writes.all is gained)) = Ends.told (refused e) (inl refl) is (gains_nothing other) gained
-  refusal_told e (Tells.its_line (Writes.part is part)) = Ends.err_failed (refused e) (inl refl) is refl (gains_nothing other) part
-  refusal_told e (Tells.no_memory (Writes.all is gained)) = Ends.told (refused NoMemory) (inr refl) is (gains_nothing other) gained
-  refusal_told e (Tells.no_memory (Writes.part is part)) = Ends.err_failed (refused NoMemory) (inr refl) is refl (gains_nothing other) part
+  refusal_told : (e : Refusal) → TellsRefusal e (change before now f g) status → Ends (IsOrLacksMemory (refused e)) (change other other h h) (change before now f g) status
+  refusal_told e (TellsRefusal.its_line (Writes.all is gained)) = Ends.told (refused e) (inl refl) is (gains_nothing other) gained
+  refusal_told e (TellsRefusal.its_line (Writes.part is part)) = Ends.err_failed (refused e) (inl refl) is refl (gains_nothing other) part
+  refusal_told e (TellsRefusal.no_memory (Writes.all is gained)) = Ends.told (refused NoMemory) (inr refl) is (gains_nothing other) gained
+  refusal_told e (TellsRefusal.no_memory (Writes.part is part)) = Ends.err_failed (refused NoMemory) (inr refl) is refl (gains_nothing other) part
 
-  pub refusal_ends : (told : Result Report Refusal) (e : Refusal) → told ≡ Err e → Tells e (change before now f g) status
+  pub refusal_ends : (told : Result Report Refusal) (e : Refusal) → told ≡ Err e → TellsRefusal e (change before now f g) status
       → Ends (IsOrLacksMemory (answer_of told)) (change other other h h) (change before now f g) status
   refusal_ends told e is tells = subst (λ t. Ends (IsOrLacksMemory (answer_of t)) (change other other h h) (change before now f g) status) (sym is) (refusal_told e tells)
 

@@ -1,16 +1,15 @@
 -- The words and the bytes of the input fix the answer, but for want of memory and failed reads.
-use Rattle.std.specs.Prelude.{◌≡◌, ◌⊎◌, ◌<◌, ◌≤◌, true, false, Bool, ℕ, List, length, Option, Some}
+use Rattle.std.specs.Prelude.{◌≡◌, ◌⊎◌, ℕ, List, Option, Some, Err}
 use Rattle.std.proofs.Common.{refl, arith, sym, ap, ◌∙◌, subst, inl, inr}
 use Rattle.sw_meaning.specs.declared.protocol.Protocol.{Protocol}
-use Rattle.sw_edge.specs.Edge.{Took}
 use Rattle.sw_protocol.specs.Texts.{HasProtocol, IsText, OneProtocol}
 use Rattle.sw_words.specs.declared.commands.Command.{Command}
 use Rattle.sw_words.specs.declared.commands.Options.{Options}
-use Rattle.sw_run.specs.Words.{asks_check}
+use Rattle.sw_run.specs.Refusals.{input_refusal}
 use Rattle.sw_run.specs.Ending.{Change, Answer, Misreads, Reads, Searches, Prints, Allowed, AllowedCheck, refused, printed}
 use Rattle.sw_run.specs.Laws.{IsLost, LacksMemory, IsRefusedUnread, OneAnswer}
 use Rattle.sw_run.specs.declared.told.Refusal.{Refusal}
-use Rattle.sw_run.specs.declared.told.Refusal.TheVariants.{TooLong, Unbuilt, ReadFault, NoMemory}
+use Rattle.sw_run.specs.declared.told.Refusal.TheVariants.{Usage, TooLong, Unbuilt, ReadFault}
 use Rattle.sw_run.proofs.Causes.{input_told, fits, over_limit, too_long_alone, faulty_alone, spelled_alone, not_unbuilt, words_choose}
 use Rattle.sw_run.proofs.OneReport.{one_report}
 
@@ -46,10 +45,10 @@ module _ (one : OneProtocol) (i j : Change) (bytes : List ℕ) (a b : Answer) (h
   one_reading Answers single (Reads.misread (Misreads.too_long long is)) other =
       same_or_failed a b (refused TooLong) is (too_long_alone j bytes there one Answers b (over_limit i bytes here long) other)
   one_reading Answers single (Reads.misread (Misreads.faulty whole e read has is)) other =
-      let known = subst (λ text. HasProtocol text _) (input_told i bytes here whole read) has in
-      same_or_failed a b _ is (faulty_alone j bytes there one Answers b e (fits i bytes here whole read) known other)
+      let known : HasProtocol bytes (Err e) = subst (λ text. HasProtocol text (Err e)) (input_told i bytes here whole read) has in
+      same_or_failed a b (refused (input_refusal e)) is (faulty_alone j bytes there one Answers b e (fits i bytes here whole read) known other)
   one_reading Answers single (Reads.read p s is) other =
-      let known = subst (λ text. IsText text p) (input_told i bytes here s.bytes s.read) s.text in
+      let known : IsText bytes p = subst (λ text. IsText text p) (input_told i bytes here s.bytes s.read) s.text in
       same_answers Answers p (single p) is (spelled_alone j bytes there one Answers b p (fits i bytes here s.bytes s.read) known other)
 
   module _ (command : Option Command) where
@@ -58,14 +57,14 @@ module _ (one : OneProtocol) (i j : Change) (bytes : List ℕ) (a b : Answer) (h
     read_both Answers single reads (inr lacks) = inl (inr (inl lacks))
 
     one_run : Allowed command i a → Allowed command j b → Agree a b
-    one_run (Allowed.usage none u is) other = same_or_lacks j a b _ is ((words_choose command j b).usage none other)
+    one_run (Allowed.usage none u is) other = same_or_lacks j a b Usage is ((words_choose command j b).usage none other)
     one_run (Allowed.unserved c some off u is) other = same_or_lacks j a b Unbuilt is ((words_choose command j b).unserved c some off other)
     one_run (Allowed.synth o some plain reads) other = read_both (Searches o) (one_search o) reads ((words_choose command j b).synth o some plain other)
     one_run (Allowed.print some reads) other = read_both Prints one_print reads ((words_choose command j b).print some other)
     one_run (Allowed.no_memory is) other = inl (inl (inl is))
 
     one_check : AllowedCheck command i a → AllowedCheck command j b → Agree a b
-    one_check (AllowedCheck.usage off u is) other = same_or_lacks j a b _ is ((words_choose command j b).check_usage off other)
+    one_check (AllowedCheck.usage off u is) other = same_or_lacks j a b Usage is ((words_choose command j b).check_usage off other)
     one_check (AllowedCheck.check on allowed) other = one_run allowed ((words_choose command j b).check on other)
     one_check (AllowedCheck.no_memory is) other = inl (inl (inl is))
 

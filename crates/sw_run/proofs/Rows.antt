@@ -1,5 +1,5 @@
 -- What errors and answers of parts are told as, by the rows of the table of causes.
-use Rattle.std.specs.Prelude.{◌≡◌, ◌⊎◌, ℕ, ◌<◌, ◌≤◌, true, false, List, [], Option, Some, None, IfSome, IfOk, IfErr, Result, Ok, Err, IsErrAnd, IsErrOf}
+use Rattle.std.specs.Prelude.{◌≡◌, ◌⊎◌, ℕ, ◌<◌, ◌≤◌, true, false, List, [], Option, Some, None, IfSome, IfErr, Result, Ok, Err, IsErrAnd, IsErrOf, option_map}
 use Rattle.std.proofs.Common.{refl, sym, ap, ◌∙◌, subst, inl, inr}
 use Rattle.std.proofs.lemmas.Bool.{cases_lt, false≢true}
 use Rattle.sw_edge.specs.Edge.{Took, Rose}
@@ -7,6 +7,7 @@ use Rattle.sw_edge.specs.declared.transfer.ReadError.{ReadError}
 use Rattle.sw_edge.specs.declared.transfer.ReadError.TheVariants as error
 use Rattle.sw_meaning.specs.declared.protocol.Protocol.{Protocol}
 use Rattle.sw_meaning.specs.ProtocolText.{protocol_text}
+use Rattle.sw_meaning.specs.Small.{small_template}
 use Rattle.sw_protocol.specs.declared.texts.ProtocolError.{ProtocolError}
 use Rattle.sw_protocol.specs.Texts.{HasProtocol, answer_of as text_answer}
 use Rattle.sw_words.specs.declared.commands.Command.{Command}
@@ -14,7 +15,7 @@ use Rattle.sw_words.specs.declared.commands.Command.TheVariants.{Synth, Certify,
 use Rattle.sw_words.specs.declared.commands.Options.{Options}
 use Rattle.sw_words.specs.declared.commands.WordsError.{WordsError}
 use Rattle.sw_words.specs.declared.commands.WordsError.TheVariants as words
-use Rattle.sw_run.specs.Words.{IsAsked, NamesNone, is_plain, is_check, is_served, asks_check}
+use Rattle.sw_run.specs.Words.{IsAsked, NamesBy, NamesNone, is_plain, is_check, is_served, asks_check}
 use Rattle.sw_run.specs.Ending.{Change, Answer, Misreads, Reads, Searches, Prints, IsInput, IsSpelled, IsUntouched, Allowed, AllowedCheck, refused, change, answer_of}
 use Rattle.sw_run.specs.Refusals.{read_refusal, words_refusal, input_refusal}
 use Rattle.sw_run.specs.declared.report.Report.{Report}
@@ -25,22 +26,6 @@ use Rattle.sw_run.specs.declared.words.Asked.TheVariants.{Served, Unserved}
 use Rattle.sw_run.specs.declared.input.TheConstants.{INPUT_LIMIT}
 
 -- ---- the input
-
-pub same_error : {X : Type 0} (e : ReadError) (r : Result X ReadError) → r ≡ Err e → IsErrOf r error.TooLong → e ≡ error.TooLong
-same_error e r is long = cc
-
--- what an error of reading is told as
-pub read_refused : (before now : Option (List ℕ)) (f g n : ℕ) (e : ReadError) → (e ≡ error.ReadFault → Rose f g)
-    → Took before now n → (e ≡ error.TooLong → INPUT_LIMIT < n) → (INPUT_LIMIT < n → e ≡ error.TooLong)
-    → Misreads (change before now f g) (refused (read_refusal e)) ⊎ (read_refusal e ≡ NoMemory)
-read_refused before now f g n error.ReadFault rose took over long =
-    inl (Misreads.read_fault (rose refl) (record { count = n; took = took; within = within (cases_lt INPUT_LIMIT n) }) refl)
-  where
-    within : (INPUT_LIMIT < n) ⊎ (n ≤ INPUT_LIMIT) → n ≤ INPUT_LIMIT
-    within (inl over) = let e : error.ReadFault ≡ error.TooLong = long over in absurd cc
-    within (inr few) = few
-read_refused before now f g n error.TooLong rose took over long = inl (Misreads.too_long (record { count = n; took = took; over = over refl }) refl)
-read_refused before now f g n (error.Memory e) rose took over long = inr refl
 
 -- what a fault of the bytes is told as
 fault_of : (bytes : List ℕ) (e : ProtocolError) → IfSome (text_answer (Err e)) (HasProtocol bytes) → HasProtocol bytes (Err e) ⊎ (e ≡ ProtocolError.Memory)
@@ -65,9 +50,9 @@ spelled_by input text bytes p r read same is has =
 
 -- an error that was passed on
 pub passed_on : (input : Change) (e : Refusal) (r : Result Protocol Refusal) → IsErrAnd r (λ x. x ≡ e) → Misreads input (refused e) ⊎ (e ≡ NoMemory)
-    → IfOk r (IsSpelled input) × IfErr r (λ x. Misreads input (refused x) ⊎ (x ≡ NoMemory))
+    → IfErr r (λ x. Misreads input (refused x) ⊎ (x ≡ NoMemory))
 passed_on input e (Ok p) is why = absurd is
-passed_on input e (Err x) is why = (tt, subst (λ y. Misreads input (refused y) ⊎ (y ≡ NoMemory)) (sym is) why)
+passed_on input e (Err x) is why = subst (λ y. Misreads input (refused y) ⊎ (y ≡ NoMemory)) (sym is) why
 
 -- ---- commands that read
 
@@ -95,24 +80,10 @@ printed_text p text is = ap (λ t. record { status = 0; text = t; line = [] }) i
 
 -- ---- what the options ask for
 
-pub none_named : (o : Options) (asked : Asked) → ((k : Option ℕ) → asked ≡ Served k → ⊥) → IsAsked o.breadth asked → NamesNone o
-none_named o (Served k) not is = absurd (not k refl)
-none_named o Unserved not is = is
+pub one_named : (o : Options) (asked : Asked) (k : Option ℕ) → asked ≡ Served k → IsAsked o.breadth asked → NamesBy o.breadth (option_map small_template k)
+one_named o asked k served is = let both : IsAsked o.breadth (Served k) = subst (IsAsked o.breadth) served is in both.0
 
 -- ---- what the words are told as
-
--- an error of the words
-pub words_refused : {T : Type 0} (command : Option Command) (input : Change) (read : Result T WordsError) (e : WordsError) (r : Result Report Refusal) → read ≡ Err e
-    → (IsErrOf read words.Usage → command ≡ None) → IsErrAnd r (λ x. x ≡ words_refusal e) → IsUntouched input → Allowed command input (answer_of r)
-words_refused command input read e (Ok x) was none is untouched = absurd is
-words_refused command input read words.Usage (Err x) was none is untouched = Allowed.usage (none was) untouched (ap refused is)
-words_refused command input read words.Memory (Err x) was none is untouched = Allowed.no_memory (ap refused is)
-
-pub words_refused_check : {T : Type 0} (command : Option Command) (input : Change) (read : Result T WordsError) (e : WordsError) (r : Result Report Refusal) → read ≡ Err e
-    → (IsErrOf read words.Usage → command ≡ None) → IsErrAnd r (λ x. x ≡ words_refusal e) → IsUntouched input → AllowedCheck command input (answer_of r)
-words_refused_check command input read e (Ok x) was none is untouched = absurd is
-words_refused_check command input read words.Usage (Err x) was none is untouched = AllowedCheck.usage (ap asks_check (none was)) untouched (ap refused is)
-words_refused_check command input read words.Memory (Err x) was none is untouched = AllowedCheck.no_memory (ap refused is)
 
 -- a command that needs no workers
 pub check_printed : (c : Command) (input : Change) (a : Answer) → c ≡ Print → Allowed (Some Print) input a → AllowedCheck (Some c) input a

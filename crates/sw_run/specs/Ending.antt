@@ -171,9 +171,9 @@ pub data Writes (o : Change) (bytes : List ℕ) (whole status : ℕ) : Type 0 wh
   part : status ≡ 6 → GainedPart o bytes → Writes o bytes whole status
 
 -- the line of the refusal was written, or that of want of memory
-pub data Tells (refusal : Refusal) (err : Change) (status : ℕ) : Type 0 where
-  its_line : Writes err (refusal_line refusal) (refusal_status refusal) status → Tells refusal err status
-  no_memory : Writes err (refusal_line NoMemory) (refusal_status NoMemory) status → Tells refusal err status
+pub data TellsRefusal (refusal : Refusal) (err : Change) (status : ℕ) : Type 0 where
+  its_line : Writes err (refusal_line refusal) (refusal_status refusal) status → TellsRefusal refusal err status
+  no_memory : Writes err (refusal_line NoMemory) (refusal_status NoMemory) status → TellsRefusal refusal err status
 
 -- what is told of a report or a refusal
 abbrev pub answer_of : Result Report Refusal → Answer

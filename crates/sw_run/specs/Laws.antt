@@ -6,7 +6,9 @@ use Rattle.sw_protocol.specs.Texts.{HasProtocol, IsText}
 use Rattle.sw_words.specs.declared.commands.Command.{Command}
 use Rattle.sw_words.specs.declared.commands.Command.TheVariants.{Synth, Print}
 use Rattle.sw_words.specs.declared.commands.Options.{Options}
-use Rattle.sw_run.specs.Words.{is_plain, is_served, asks_check}
+use Rattle.sw_meaning.specs.Space.{Template}
+use Rattle.sw_meaning.specs.Small.{IsSmall}
+use Rattle.sw_run.specs.Words.{NamesBy, is_plain, is_served, asks_check}
 use Rattle.sw_run.specs.Refusals.{input_refusal}
 use Rattle.sw_run.specs.Ending.{Change, Answer, Reads, Searches, Reports, Prints, IsUnbuilt, IsTooLong, IsUntouched, Allowed, AllowedCheck, refused}
 use Rattle.sw_run.specs.declared.input.TheConstants.{INPUT_LIMIT}
@@ -44,19 +46,24 @@ pub record WordsChoose (command : Option Command) (input : Change) (a : Answer) 
   pub check : asks_check command ≡ true → AllowedCheck command input a → Allowed command input a
 
 -- the bytes of the input choose the row, but for a failed read, which too many bytes that were taken
--- leave out; and what has a report is served
+-- leave out
 pub record InputChooses (input : Change) (bytes : List ℕ) (Answers : Protocol → Answer → Type 0) (a : Answer) : Type 0 where
   pub too_long : INPUT_LIMIT < length bytes → Reads input Answers a → (a ≡ refused TooLong) ⊎ (a ≡ refused ReadFault)
   pub faulty : (e : ProtocolError) → length bytes ≤ INPUT_LIMIT → HasProtocol bytes (Err e) → Reads input Answers a → (a ≡ refused (input_refusal e)) ⊎ (a ≡ refused ReadFault)
   pub spelled : (p : Protocol) → length bytes ≤ INPUT_LIMIT → IsText bytes p → Reads input Answers a → Answers p a ⊎ (a ≡ refused ReadFault)
   pub taken : Tells input → IsTooLong input → Reads input Answers a → a ≡ refused TooLong
 
+-- the options and the protocol choose the row of a search
+pub record SearchChooses (options : Options) (p : Protocol) (a : Answer) : Type 0 where
+  pub report : (t : Option Template) → IsSmall p → NamesBy options.breadth t → Searches options p a → Reports options p a
+  pub unbuilt : IsUnbuilt options p → Searches options p a → a ≡ refused Unbuilt
+
 abbrev pub RowsExcludeEachOther : Type 0
 RowsExcludeEachOther =
     ((command : Option Command) (input : Change) (a : Answer) → WordsChoose command input a)
     × ((options : Options) (input : Change) (bytes : List ℕ) (a : Answer) → input.before ≡ Some bytes → InputChooses input bytes (Searches options) a)
     × ((input : Change) (bytes : List ℕ) (a : Answer) → input.before ≡ Some bytes → InputChooses input bytes Prints a)
-    × ((options : Options) (p : Protocol) (a : Answer) → Reports options p a → IsUnbuilt options p → ⊥)
+    × ((options : Options) (p : Protocol) (a : Answer) → SearchChooses options p a)
 
 -- the options and the protocol fix a report, each byte of it
 abbrev pub OneReport : Type 0

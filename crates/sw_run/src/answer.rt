@@ -63,11 +63,7 @@ fn print<S: Source>(alloc: Global, source: &mut S) -> Result<Report, Refusal>
 }
 
 // The answer to a command that needs no workers; others are not meant here.
-fn check<S: Source>(
-    alloc: Global,
-    command: &Command,
-    source: &mut S,
-) -> Result<Report, Refusal>
+fn check<S: Source>(alloc: Global, command: &Command, source: &mut S) -> Result<Report, Refusal>
     ensures { AllowedCheck (Some command.now)
         (change (S.left source.old) (S.left source.new) (S.faults source.old) (S.faults source.new))
         (answer_of result) }

@@ -1,6 +1,6 @@
 // Refusals, and how a report or a refusal is told.
 ghost use Rattle.std.specs.Prelude.{◌≡◌};
-ghost use Rattle.sw_run.specs.Ending.{answer_of, Ends, Writes, Tells, IsOrLacksMemory, change};
+ghost use Rattle.sw_run.specs.Ending.{answer_of, Ends, Writes, TellsRefusal, IsOrLacksMemory, change};
 
 use crate::faults::Fault;
 use crate::report::Report;
@@ -89,7 +89,7 @@ fn write_text<O: Sink>(sink: &mut O, text: &str, status: u8) -> u8
 
 // Writes the line of a fault of the input, or that memory ran out before the line was made.
 fn tell_fault<E: Sink>(alloc: Global, fault: Fault, at: u32, err: &mut E) -> u8
-    ensures { Tells (Refusal.Faulty fault at)
+    ensures { TellsRefusal (Refusal.Faulty fault at)
         (change (E.held err.old) (E.held err.new) (E.faults err.old) (E.faults err.new)) result }
 {
     match fault.line(alloc, at) {
@@ -100,7 +100,7 @@ fn tell_fault<E: Sink>(alloc: Global, fault: Fault, at: u32, err: &mut E) -> u8
 
 // Writes the line of a refusal, and gives the status to end with.
 fn tell_refusal<E: Sink>(alloc: Global, refusal: Refusal, err: &mut E) -> u8
-    ensures { Tells refusal
+    ensures { TellsRefusal refusal
         (change (E.held err.old) (E.held err.new) (E.faults err.old) (E.faults err.new)) result }
 {
     match refusal {
