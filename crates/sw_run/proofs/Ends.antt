@@ -1,14 +1,45 @@
 -- How a report and a refusal end a run, where they are written whole and where a sink failed.
-use Rattle.std.specs.Prelude.{◌≡◌, ℕ, List, [], Option, Some, None, Result, Ok, Err, string_bytes}
-use Rattle.std.proofs.Common.{refl, sym, ap, subst, append-nil}
-use Rattle.sw_edge.specs.Edge.{Gains, GainsPrefix, Rose}
+use Rattle.std.specs.Prelude.{◌≡◌, ◌⊎◌, ℕ, List, [], Option, Some, None, Result, Ok, Err, string_bytes}
+use Rattle.std.proofs.Common.{refl, sym, ap, subst, append-nil, inl, inr}
+use Rattle.sw_edge.specs.Edge.{Gains}
 use Rattle.sw_run.specs.declared.told.Refusal.{Refusal}
+use Rattle.sw_run.specs.declared.told.Refusal.TheVariants.{NoMemory}
 use Rattle.sw_run.specs.declared.report.Report.{Report}
-use Rattle.sw_run.specs.Ending.{Answer, Ends, Is, change, answer_of, refusal_line, refusal_status, Change}
+use Rattle.sw_run.specs.Refusals.{refusal_line, refusal_status}
+use Rattle.sw_run.specs.Ending.{Answer, Ends, Writes, TellsRefusal, IsOrLacksMemory, change, answer_of, refused, Change}
+
+-- a line that was written is that of its refusal
+pub tells_line : (e r : Refusal) (err : Change) (status : ℕ) → e ≡ r → Writes err (refusal_line r) (refusal_status r) status → TellsRefusal e err status
+tells_line e r err status is writes = subst (λ x. TellsRefusal x err status) (sym is) (TellsRefusal.its_line writes)
+
+pub tells_as : (e r : Refusal) (err : Change) (status : ℕ) → e ≡ r → TellsRefusal r err status → TellsRefusal e err status
+tells_as e r err status is tells = subst (λ x. TellsRefusal x err status) (sym is) tells
 
 gains_nothing : (held : Option (List ℕ)) → Gains held held []
 gains_nothing None = refl
 gains_nothing (Some bytes) = ap Some (sym (append-nil bytes))
+
+module _ (before now other : Option (List ℕ)) (f g h status : ℕ) where
+  -- a report was written to `out`
+  report_written : (r : Report) → Writes (change before now f g) (string_bytes r.text) r.status status
+      → Ends (IsOrLacksMemory (answer_of (Ok r))) (change before now f g) (change other other h h) status
+  report_written r (Writes.all is gained) = Ends.told (answer_of (Ok r)) (inl refl) is gained (gains_nothing other)
+  report_written r (Writes.part is part) = Ends.out_failed (answer_of (Ok r)) (inl refl) is part (gains_nothing other)
+
+  pub report_ends : (told : Result Report Refusal) (r : Report) → told ≡ Ok r → Writes (change before now f g) (string_bytes r.text) r.status status
+      → Ends (IsOrLacksMemory (answer_of told)) (change before now f g) (change other other h h) status
+  report_ends told r is writes = subst (λ t. Ends (IsOrLacksMemory (answer_of t)) (change before now f g) (change other other h h) status) (sym is) (report_written r writes)
+
+  -- a refusal was told to `err`
+  refusal_told : (e : Refusal) → TellsRefusal e (change before now f g) status → Ends (IsOrLacksMemory (refused e)) (change other other h h) (change before now f g) status
+  refusal_told e (TellsRefusal.its_line (Writes.all is gained)) = Ends.told (refused e) (inl refl) is (gains_nothing other) gained
+  refusal_told e (TellsRefusal.its_line (Writes.part is part)) = Ends.err_failed (refused e) (inl refl) is refl (gains_nothing other) part
+  refusal_told e (TellsRefusal.no_memory (Writes.all is gained)) = Ends.told (refused NoMemory) (inr refl) is (gains_nothing other) gained
+  refusal_told e (TellsRefusal.no_memory (Writes.part is part)) = Ends.err_failed (refused NoMemory) (inr refl) is refl (gains_nothing other) part
+
+  pub refusal_ends : (told : Result Report Refusal) (e : Refusal) → told ≡ Err e → TellsRefusal e (change before now f g) status
+      → Ends (IsOrLacksMemory (answer_of told)) (change other other h h) (change before now f g) status
+  refusal_ends told e is tells = subst (λ t. Ends (IsOrLacksMemory (answer_of t)) (change other other h h) (change before now f g) status) (sym is) (refusal_told e tells)
 
 -- what ends a run with some answers ends it with more
 ends_with_more : (P Q : Answer → Type 0) (out err : Change) (status : ℕ) → ((a : Answer) → P a → Q a) → Ends P out err status → Ends Q out err status
@@ -16,32 +47,11 @@ ends_with_more P Q out err status more (Ends.told a p s o e) = Ends.told a (more
 ends_with_more P Q out err status more (Ends.out_failed a p s o e) = Ends.out_failed a (more a p) s o e
 ends_with_more P Q out err status more (Ends.err_failed a p s t o e) = Ends.err_failed a (more a p) s t o e
 
-module _ (told : Result Report Refusal) (out now err : Option (List ℕ)) (f g h : ℕ) where
-  -- a report is written whole to `out`
-  pub report_told : (r : Report) → told ≡ Ok r → Gains out now (string_bytes r.text) → Ends (Is (answer_of told)) (change out now f g) (change err err h h) r.status
-  report_told r is gained =
-      subst (λ t. Ends (Is (answer_of t)) (change out now f g) (change err err h h) r.status) (sym is)
-      (Ends.told (answer_of (Ok r)) refl refl gained (gains_nothing err))
+either_allowed : (P : Answer → Type 0) (a : Answer) → P a → P (refused NoMemory) → (b : Answer) → IsOrLacksMemory a b → P b
+either_allowed P a here lacks b (inl is) = subst P (sym is) here
+either_allowed P a here lacks b (inr is) = subst P (sym is) lacks
 
-  -- `out` failed
-  pub report_cut : (r : Report) → told ≡ Ok r → GainsPrefix out now (string_bytes r.text) → Rose f g → Ends (Is (answer_of told)) (change out now f g) (change err err h h) 6
-  report_cut r is part rose =
-      subst (λ t. Ends (Is (answer_of t)) (change out now f g) (change err err h h) 6) (sym is)
-      (Ends.out_failed (answer_of (Ok r)) refl refl (part, rose) (gains_nothing err))
-
-  -- a refusal's line is written whole to `err`, whose bytes are the first here
-  pub refusal_told : (e : Refusal) → told ≡ Err e → Gains out now (refusal_line e) → Ends (Is (answer_of told)) (change err err h h) (change out now f g) (refusal_status e)
-  refusal_told e is gained =
-      subst (λ t. Ends (Is (answer_of t)) (change err err h h) (change out now f g) (refusal_status e)) (sym is)
-      (Ends.told (answer_of (Err e)) refl refl (gains_nothing err) gained)
-
-  -- `err` failed
-  pub refusal_cut : (e : Refusal) → told ≡ Err e → GainsPrefix out now (refusal_line e) → Rose f g → Ends (Is (answer_of told)) (change err err h h) (change out now f g) 6
-  refusal_cut e is part rose =
-      subst (λ t. Ends (Is (answer_of t)) (change err err h h) (change out now f g) 6) (sym is)
-      (Ends.err_failed (answer_of (Err e)) refl refl refl (gains_nothing err) (part, rose))
-
--- the one answer is allowed
-pub allowed_ends : (P : Answer → Type 0) (out err : Change) (told : Result Report Refusal) (status : ℕ) → P (answer_of told) → Ends (Is (answer_of told)) out err status
-    → Ends P out err status
-allowed_ends P out err told status allowed ends = ends_with_more (Is (answer_of told)) P out err status (λ a is. subst P (sym is) allowed) ends
+-- the answer is allowed, and want of memory is
+pub allowed_ends : (P : Answer → Type 0) (out err : Change) (told : Result Report Refusal) (status : ℕ) → P (answer_of told) → P (refused NoMemory)
+    → Ends (IsOrLacksMemory (answer_of told)) out err status → Ends P out err status
+allowed_ends P out err told status allowed lacks ends = ends_with_more (IsOrLacksMemory (answer_of told)) P out err status (either_allowed P (answer_of told) allowed lacks) ends

@@ -1,11 +1,8 @@
+pub mod Causes
 pub mod ClassText
 pub mod Commands
-pub mod Complete
 pub mod Ends
-pub mod Names
+pub mod OneAnswer
+pub mod OneProtocol
 pub mod OneReport
-pub mod OneText
 pub mod Rows
-pub mod Sound
-pub mod Steps
-pub mod Texts

@@ -1,4 +1,4 @@
--- One text has one report: the input and the words fix each byte of it.
+-- A protocol has one report: the options fix each byte of it.
 use Rattle.std.specs.Prelude.{◌≡◌, ℕ, ◌+◌, List, [], ◌∷◌, ◌++◌, Option, Some, None, codes}
 use Rattle.std.proofs.Common.{refl, arith, sym, ap, ◌∙◌, subst}
 use Rattle.sw_logic.specs.declared.syntax.Formula.{Formula}
@@ -11,15 +11,10 @@ use Rattle.sw_meaning.specs.Report.{report_text}
 use Rattle.sw_meaning.specs.Laws.{SameWord, OneMeaning}
 use Rattle.sw_meaning.proofs.OneMeaning.{lists_have_one_meaning}
 use Rattle.sw_meaning.proofs.OnePlain.{plain_is_one}
-use Rattle.sw_words.specs.declared.commands.Command.{Command}
-use Rattle.sw_words.specs.declared.commands.Options.{Options}
-use Rattle.sw_run.specs.Words.{NamesTemplate, Names, NamesBy}
-use Rattle.sw_run.specs.Text.{IsText}
+use Rattle.sw_run.specs.Words.{NamesTemplate, NamesBy}
 use Rattle.sw_run.specs.Ending.{IsReport, IsPlain, word_status}
 use Rattle.sw_run.specs.Laws.{OneReport}
 use Rattle.sw_run.proofs.Commands.{same_last}
-use Rattle.sw_run.proofs.Rows.{input_told, same_options}
-use Rattle.sw_run.proofs.OneText.{texts_are_one}
 
 one_digit : (text : List ℕ) (k n : ℕ) → NamesTemplate text k → NamesTemplate text n → k ≡ n
 one_digit text k n a b =
@@ -28,7 +23,7 @@ one_digit text k n a b =
     let digits : 48 + k ≡ 48 + n = (same_last a.blanks b.blanks (48 + k) (48 + n) ends).1 in
     omega arith
 
--- a text names one template at most, and so do words
+-- a text names one template at most
 one_by_text : (breadth : Option (List ℕ)) (t u : Option Template) → NamesBy breadth t → NamesBy breadth u → t ≡ u
 one_by_text breadth t u (NamesBy.without is none) (NamesBy.without is' none') = none ∙ sym none'
 one_by_text breadth t u (NamesBy.without is none) (NamesBy.literals text k is' named some) = absurd cc
@@ -36,11 +31,6 @@ one_by_text breadth t u (NamesBy.literals text k is named some) (NamesBy.without
 one_by_text breadth t u (NamesBy.literals text k is named some) (NamesBy.literals text' k' is' named' some') =
     let same : text ≡ text' = cc in
     some ∙ (ap (λ n. Some (small_template n)) (one_digit text' k k' (subst (λ x. NamesTemplate x k) same named) named') ∙ sym some')
-
-one_template : (command : Option Command) (t u : Option Template) → Names command t → Names command u → t ≡ u
-one_template command t u a b =
-    let same : a.options ≡ b.options = same_options a.options b.options (sym a.asks.synth ∙ b.asks.synth) in
-    one_by_text b.options.breadth t u (subst (λ (o : Options). NamesBy o.breadth t) same a.by_text) b.by_text
 
 one_list : (p : Protocol) (t : Option Template) (g h : List Formula) → IsPlain p t g → IsPlain p t h → g ≡ h
 one_list p None g h a b = a ∙ sym b
@@ -78,14 +68,11 @@ module _ (p : Protocol) (t : Option Template) (s r : ℕ) (xs ys : List ℕ) (a 
   one_status = a.ends ∙ (ap word_status words_same ∙ sym b.ends)
 
 pub one_report : OneReport
-one_report command input a b tells x y =
-    let bytes : x.bytes ≡ y.bytes = input_told input x.bytes tells.first x.read tells.before ∙ sym (input_told input y.bytes tells.first y.read tells.before) in
-    let protocols : y.protocol ≡ x.protocol = texts_are_one y.bytes y.protocol x.protocol y.spelled (subst (λ z. IsText z x.protocol) bytes x.spelled) in
-    let templates : y.template ≡ x.template = one_template command y.template x.template y.named x.named in
-    let other : IsReport x.protocol x.template b.status b.text =
-    subst (λ p. IsReport p x.template b.status b.text) protocols (subst (λ t. IsReport y.protocol t b.status b.text) templates y.report) in
-    let statuses : a.status ≡ b.status = one_status x.protocol x.template a.status b.status a.text b.text x.report other in
-    let texts_same : a.text ≡ b.text = one_text x.protocol x.template a.status b.status a.text b.text x.report other in
+one_report options p a b x y =
+    let templates : y.template ≡ x.template = one_by_text options.breadth y.template x.template y.named x.named in
+    let other : IsReport p x.template b.status b.text = subst (λ t. IsReport p t b.status b.text) templates y.report in
+    let statuses : a.status ≡ b.status = one_status p x.template a.status b.status a.text b.text x.report other in
+    let texts_same : a.text ≡ b.text = one_text p x.template a.status b.status a.text b.text x.report other in
     let lines : a.line ≡ b.line = x.line ∙ sym y.line in
     ap (λ n. record { status = n; text = a.text; line = a.line }) statuses
     ∙ (ap (λ z. record { status = b.status; text = z; line = a.line }) texts_same

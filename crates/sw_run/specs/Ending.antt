@@ -1,18 +1,23 @@
 -- What a run may end with: the answers that words and input allow, and how an answer is told.
-use Rattle.std.specs.Prelude.{◌≡◌, ◌⊎◌, ◌<◌, ◌≤◌, ℕ, true, false, List, [], length, Option, Some, None, IfSome, codes, string_bytes, Result, Ok, Err}
+use Rattle.std.specs.Prelude.{◌≡◌, ◌⊎◌, ◌<◌, ◌≤◌, ℕ, true, false, List, [], length, Option, Some, None, IfSome, string_bytes, Result, Ok, Err}
 use Rattle.sw_logic.specs.declared.syntax.Formula.{Formula}
 use Rattle.sw_meaning.specs.declared.protocol.Protocol.{Protocol}
 use Rattle.sw_meaning.specs.Space.{Template}
 use Rattle.sw_meaning.specs.Small.{IsSmall}
 use Rattle.sw_meaning.specs.Inductive.{Earned, Closed}
 use Rattle.sw_meaning.specs.Plain.{PlainList, formulas_of}
+use Rattle.sw_meaning.specs.ProtocolText.{protocol_text}
 use Rattle.sw_meaning.specs.Verdict.{Word, Verdict}
-use Rattle.sw_meaning.specs.Report.{line, report_text}
+use Rattle.sw_meaning.specs.Report.{report_text}
 use Rattle.sw_edge.specs.Edge.{Gains, GainsPrefix, Rose, Took}
+use Rattle.sw_protocol.specs.declared.texts.ProtocolError.{ProtocolError}
+use Rattle.sw_protocol.specs.Texts.{HasProtocol, IsText}
 use Rattle.sw_words.specs.declared.commands.Command.{Command}
-use Rattle.sw_run.specs.Words.{IsServed, Names, is_served, asks_check}
-use Rattle.sw_run.specs.Text.{IsText}
-use Rattle.sw_run.specs.declared.answer.TheConstants.{INPUT_LIMIT}
+use Rattle.sw_words.specs.declared.commands.Command.TheVariants.{Synth, Print}
+use Rattle.sw_words.specs.declared.commands.Options.{Options}
+use Rattle.sw_run.specs.Words.{NamesBy, NamesNone, is_plain, is_served, asks_check}
+use Rattle.sw_run.specs.Refusals.{input_refusal, refusal_status, refusal_line}
+use Rattle.sw_run.specs.declared.input.TheConstants.{INPUT_LIMIT}
 use Rattle.sw_run.specs.declared.told.Refusal.{Refusal}
 use Rattle.sw_run.specs.declared.told.Refusal.TheVariants.{Usage, TooLong, Unbuilt, ReadFault, NoMemory}
 use Rattle.sw_run.specs.declared.report.Report.{Report}
@@ -33,28 +38,52 @@ pub record Answer : Type 0 where
   pub text : List ℕ
   pub line : List ℕ
 
-abbrev pub refusal_status : Refusal → ℕ
-refusal_status Usage = 2
-refusal_status TooLong = 3
-refusal_status Unbuilt = 3
-refusal_status ReadFault = 5
-refusal_status NoMemory = 7
-
-abbrev pub refusal_line : Refusal → List ℕ
-refusal_line Usage = line (codes "usage: swiss synth|certify [--breadth TEXT] [--finish TEXT] [--workers N] [--conflicts K], check, print, space TEXT, drill N [--workers N]")
-refusal_line TooLong = line (codes "swiss: input too long")
-refusal_line Unbuilt = line (codes "swiss: Unbuilt")
-refusal_line ReadFault = line (codes "swiss: read fault")
-refusal_line NoMemory = line (codes "swiss: out of memory")
-
 abbrev pub refused : Refusal → Answer
 refused refusal = record { status = refusal_status refusal; text = []; line = refusal_line refusal }
+
+-- ---- the input
 
 -- these are all the bytes that the source had left, it is at its end, and they are not too many
 pub record IsInput (input : Change) (bytes : List ℕ) : Type 0 where
   pub all : IfSome input.before (λ left. bytes ≡ left)
   pub ended : IfSome input.now (λ left. left ≡ [])
   pub within : length bytes ≤ INPUT_LIMIT
+
+-- too many bytes were taken
+pub record IsTooLong (input : Change) : Type 0 where
+  pub count : ℕ
+  pub took : Took input.before input.now count
+  pub over : INPUT_LIMIT < count
+
+-- no more bytes were taken than may be
+pub record IsWithinLimit (input : Change) : Type 0 where
+  pub count : ℕ
+  pub took : Took input.before input.now count
+  pub within : count ≤ INPUT_LIMIT
+
+-- nothing was taken from the source, and no fault rose
+pub record IsUntouched (input : Change) : Type 0 where
+  pub bytes : input.now ≡ input.before
+  pub faults : input.faults_now ≡ input.faults_before
+
+-- the whole input was read, and is a text of the protocol
+pub record IsSpelled (input : Change) (p : Protocol) : Type 0 where
+  pub bytes : List ℕ
+  pub read : IsInput input bytes
+  pub text : IsText bytes p
+
+-- no protocol comes of the input: the source failed, it has too many bytes, or they have a fault
+pub data Misreads (input : Change) (a : Answer) : Type 0 where
+  read_fault : Rose input.faults_before input.faults_now → IsWithinLimit input → a ≡ refused ReadFault → Misreads input a
+  too_long : IsTooLong input → a ≡ refused TooLong → Misreads input a
+  faulty : (bytes : List ℕ) (e : ProtocolError) → IsInput input bytes → HasProtocol bytes (Err e) → a ≡ refused (input_refusal e) → Misreads input a
+
+-- what a command answers that reads a protocol: why there is none, or what is answered of it
+pub data Reads (input : Change) (Answers : Protocol → Answer → Type 0) (a : Answer) : Type 0 where
+  misread : Misreads input a → Reads input Answers a
+  read : (p : Protocol) → IsSpelled input p → Answers p a → Reads input Answers a
+
+-- ---- the answers of each command to a protocol
 
 abbrev pub word_status : Word → ℕ
 word_status Word.violated = 11
@@ -79,65 +108,48 @@ pub record IsReport (p : Protocol) (t : Option Template) (status : ℕ) (bytes :
   pub text : bytes ≡ report_text p t list word
   pub ends : status ≡ word_status word
 
--- a report on the protocol that the whole input spells, with the template that the words name
-pub record Reports (command : Option Command) (input : Change) (a : Answer) : Type 0 where
-  pub bytes : List ℕ
-  pub read : IsInput input bytes
-  pub protocol : Protocol
-  pub spelled : IsText bytes protocol
-  pub small : IsSmall protocol
+-- a report on the protocol, with the template that the options name
+pub record Reports (options : Options) (p : Protocol) (a : Answer) : Type 0 where
+  pub small : IsSmall p
   pub template : Option Template
-  pub named : Names command template
-  pub report : IsReport protocol template a.status a.text
+  pub named : NamesBy options.breadth template
+  pub report : IsReport p template a.status a.text
   pub line : a.line ≡ []
 
--- the input spells no small protocol
-abbrev pub SpellsNone : List ℕ → Type 0
-SpellsNone bytes = (p : Protocol) → IsText bytes p → IsSmall p → ⊥
+-- the protocol, or the template, is not served
+abbrev pub IsUnbuilt : Options → Protocol → Type 0
+IsUnbuilt options p = (IsSmall p → ⊥) ⊎ NamesNone options
 
--- the words name no template that is served, and do not leave it out
-abbrev pub NamesNone : Option Command → Type 0
-NamesNone command = (t : Option Template) → Names command t → ⊥
+-- what a search answers of a protocol
+pub data Searches (options : Options) (p : Protocol) (a : Answer) : Type 0 where
+  report : Reports options p a → Searches options p a
+  unbuilt : IsUnbuilt options p → a ≡ refused Unbuilt → Searches options p a
 
--- the whole input was read, and it is not served
-pub record IsUnbuilt (command : Option Command) (input : Change) : Type 0 where
-  pub bytes : List ℕ
-  pub read : IsInput input bytes
-  pub cause : SpellsNone bytes ⊎ NamesNone command
+abbrev pub printed : Protocol → Answer
+printed p = record { status = 0; text = protocol_text p; line = [] }
 
--- too many bytes were taken
-pub record IsTooLong (input : Change) : Type 0 where
-  pub count : ℕ
-  pub took : Took input.before input.now count
-  pub over : INPUT_LIMIT < count
+-- what `print` answers of a protocol: its canonical text
+abbrev pub Prints : Protocol → Answer → Type 0
+Prints p a = a ≡ printed p
 
--- no more bytes were taken than may be
-pub record IsWithinLimit (input : Change) : Type 0 where
-  pub count : ℕ
-  pub took : Took input.before input.now count
-  pub within : count ≤ INPUT_LIMIT
-
--- nothing was taken from the source, and no fault rose
-pub record IsUntouched (input : Change) : Type 0 where
-  pub bytes : input.now ≡ input.before
-  pub faults : input.faults_now ≡ input.faults_before
+-- ---- the answers to words and input
 
 -- an answer that the words and the input allow, by the row of its cause; want of memory has none.
 -- The words are given by the command that they are, if they are one
 pub data Allowed (command : Option Command) (input : Change) (a : Answer) : Type 0 where
-  report : Reports command input a → Allowed command input a
   usage : command ≡ None → IsUntouched input → a ≡ refused Usage → Allowed command input a
   unserved : (c : Command) → command ≡ Some c → is_served c ≡ false → IsUntouched input → a ≡ refused Unbuilt → Allowed command input a
-  read_fault : IsServed command → Rose input.faults_before input.faults_now → IsWithinLimit input → a ≡ refused ReadFault → Allowed command input a
-  too_long : IsServed command → IsTooLong input → a ≡ refused TooLong → Allowed command input a
-  unbuilt : IsServed command → IsUnbuilt command input → a ≡ refused Unbuilt → Allowed command input a
+  synth : (options : Options) → command ≡ Some (Synth options) → is_plain options ≡ true → Reads input (Searches options) a → Allowed command input a
+  print : command ≡ Some Print → Reads input Prints a → Allowed command input a
   no_memory : a ≡ refused NoMemory → Allowed command input a
 
--- the same of the call that serves `space`, `print` and `check` alone, of which none is served yet
+-- the same of the call that serves `space`, `print` and `check` alone
 pub data AllowedCheck (command : Option Command) (input : Change) (a : Answer) : Type 0 where
   usage : asks_check command ≡ false → IsUntouched input → a ≡ refused Usage → AllowedCheck command input a
-  unserved : asks_check command ≡ true → IsUntouched input → a ≡ refused Unbuilt → AllowedCheck command input a
+  check : asks_check command ≡ true → Allowed command input a → AllowedCheck command input a
   no_memory : a ≡ refused NoMemory → AllowedCheck command input a
+
+-- ---- how an answer is told
 
 -- the sink gained these bytes
 abbrev pub Gained : Change → List ℕ → Type 0
@@ -153,11 +165,21 @@ pub data Ends (allowed : Answer → Type 0) (out err : Change) (status : ℕ) : 
   out_failed : (a : Answer) → allowed a → status ≡ 6 → GainedPart out a.text → Gained err [] → Ends allowed out err status
   err_failed : (a : Answer) → allowed a → status ≡ 6 → a.text ≡ [] → Gained out [] → GainedPart err a.line → Ends allowed out err status
 
+-- the bytes were written whole, which has this status, or the sink failed
+pub data Writes (o : Change) (bytes : List ℕ) (whole status : ℕ) : Type 0 where
+  all : status ≡ whole → Gained o bytes → Writes o bytes whole status
+  part : status ≡ 6 → GainedPart o bytes → Writes o bytes whole status
+
+-- the line of the refusal was written, or that of want of memory
+pub data TellsRefusal (refusal : Refusal) (err : Change) (status : ℕ) : Type 0 where
+  its_line : Writes err (refusal_line refusal) (refusal_status refusal) status → TellsRefusal refusal err status
+  no_memory : Writes err (refusal_line NoMemory) (refusal_status NoMemory) status → TellsRefusal refusal err status
+
 -- what is told of a report or a refusal
 abbrev pub answer_of : Result Report Refusal → Answer
 answer_of (Ok r) = record { status = r.status; text = string_bytes r.text; line = [] }
 answer_of (Err e) = refused e
 
--- the one answer
-abbrev pub Is : Answer → Answer → Type 0
-Is a b = b ≡ a
+-- this answer, or want of memory
+abbrev pub IsOrLacksMemory : Answer → Answer → Type 0
+IsOrLacksMemory a b = (b ≡ a) ⊎ (b ≡ refused NoMemory)

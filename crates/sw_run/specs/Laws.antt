@@ -1,11 +1,31 @@
--- The laws of the endings: the causes of different answers never stand together, and one input has one report.
-use Rattle.std.specs.Prelude.{◌≡◌, ◌⊎◌, ℕ, true, false, List, Option, Some, None}
+-- The laws of the endings: the causes of different answers never stand together, and the words and the bytes of the input fix the answer.
+use Rattle.std.specs.Prelude.{◌≡◌, ◌⊎◌, ◌<◌, ◌≤◌, ℕ, true, false, List, length, Option, Some, None, Err}
 use Rattle.sw_meaning.specs.declared.protocol.Protocol.{Protocol}
-use Rattle.sw_run.specs.Text.{IsText}
+use Rattle.sw_protocol.specs.declared.texts.ProtocolError.{ProtocolError}
+use Rattle.sw_protocol.specs.Texts.{HasProtocol, IsText}
 use Rattle.sw_words.specs.declared.commands.Command.{Command}
-use Rattle.sw_run.specs.Words.{IsServed, is_served, asks_check}
-use Rattle.sw_run.specs.Ending.{Change, Answer, Reports, IsTooLong, IsUnbuilt, IsUntouched, Allowed, AllowedCheck, refused}
-use Rattle.sw_run.specs.declared.told.Refusal.TheVariants.{Usage, TooLong, Unbuilt, NoMemory}
+use Rattle.sw_words.specs.declared.commands.Command.TheVariants.{Synth, Print}
+use Rattle.sw_words.specs.declared.commands.Options.{Options}
+use Rattle.sw_meaning.specs.Space.{Template}
+use Rattle.sw_meaning.specs.Small.{IsSmall}
+use Rattle.sw_run.specs.Words.{NamesBy, is_plain, is_served, asks_check}
+use Rattle.sw_run.specs.Refusals.{input_refusal}
+use Rattle.sw_run.specs.Ending.{Change, Answer, Reads, Searches, Reports, Prints, IsUnbuilt, IsTooLong, IsUntouched, Allowed, AllowedCheck, refused}
+use Rattle.sw_run.specs.declared.input.TheConstants.{INPUT_LIMIT}
+use Rattle.sw_run.specs.declared.told.Refusal.{Refusal}
+use Rattle.sw_run.specs.declared.told.Refusal.TheVariants.{Usage, TooLong, Unbuilt, ReadFault, NoMemory}
+
+-- want of memory
+abbrev pub LacksMemory : Answer → Type 0
+LacksMemory a = a ≡ refused NoMemory
+
+-- want of memory, or a failed read
+abbrev pub IsLost : Answer → Type 0
+IsLost a = LacksMemory a ⊎ (a ≡ refused ReadFault)
+
+-- this refusal, and nothing was taken from the source
+abbrev pub IsRefusedUnread : Refusal → Change → Answer → Type 0
+IsRefusedUnread refusal input a = (a ≡ refused refusal) × IsUntouched input
 
 -- the source tells its bytes
 pub record Tells (input : Change) : Type 0 where
@@ -14,27 +34,45 @@ pub record Tells (input : Change) : Type 0 where
   pub before : input.before ≡ Some first
   pub now : input.now ≡ Some last
 
--- where the words are no command, usage is the one answer; where they are one that is not served,
--- that is, and of the source nothing is taken then; where they are one that is and the input is too long, that is; but for want of memory; and
--- what has a report is served
-pub record RowsExclude (command : Option Command) (input : Change) : Type 0 where
-  pub usage : (a : Answer) → command ≡ None → Allowed command input a → ((a ≡ refused Usage) × IsUntouched input) ⊎ (a ≡ refused NoMemory)
-  pub unserved : (a : Answer) (c : Command) → command ≡ Some c → is_served c ≡ false → Allowed command input a → ((a ≡ refused Unbuilt) × IsUntouched input) ⊎ (a ≡ refused NoMemory)
-  pub too_long : (a : Answer) → IsServed command → Tells input → IsTooLong input → Allowed command input a → (a ≡ refused TooLong) ⊎ (a ≡ refused NoMemory)
-  pub report_or_unbuilt : (a : Answer) → Tells input → Reports command input a → IsUnbuilt command input → ⊥
+-- the words choose the row, but for want of memory: where they are no command, usage is the one
+-- answer; where they are one that is not served, that is; a search that is served and `print` are
+-- answered as what they read says; and `run_check` gives `space`, `print` and `check` the answers of `run`
+pub record WordsChoose (command : Option Command) (input : Change) (a : Answer) : Type 0 where
+  pub usage : command ≡ None → Allowed command input a → IsRefusedUnread Usage input a ⊎ LacksMemory a
+  pub unserved : (c : Command) → command ≡ Some c → is_served c ≡ false → Allowed command input a → IsRefusedUnread Unbuilt input a ⊎ LacksMemory a
+  pub synth : (options : Options) → command ≡ Some (Synth options) → is_plain options ≡ true → Allowed command input a → Reads input (Searches options) a ⊎ LacksMemory a
+  pub print : command ≡ Some Print → Allowed command input a → Reads input Prints a ⊎ LacksMemory a
+  pub check_usage : asks_check command ≡ false → AllowedCheck command input a → IsRefusedUnread Usage input a ⊎ LacksMemory a
+  pub check : asks_check command ≡ true → AllowedCheck command input a → Allowed command input a
 
--- the same of the commands that need no workers
-pub record CheckRowsExclude (command : Option Command) (input : Change) : Type 0 where
-  pub usage : (a : Answer) → asks_check command ≡ false → AllowedCheck command input a → ((a ≡ refused Usage) × IsUntouched input) ⊎ (a ≡ refused NoMemory)
-  pub unserved : (a : Answer) → asks_check command ≡ true → AllowedCheck command input a → ((a ≡ refused Unbuilt) × IsUntouched input) ⊎ (a ≡ refused NoMemory)
+-- the bytes of the input choose the row, but for a failed read, which too many bytes that were taken
+-- leave out
+pub record InputChooses (input : Change) (bytes : List ℕ) (Answers : Protocol → Answer → Type 0) (a : Answer) : Type 0 where
+  pub too_long : INPUT_LIMIT < length bytes → Reads input Answers a → (a ≡ refused TooLong) ⊎ (a ≡ refused ReadFault)
+  pub faulty : (e : ProtocolError) → length bytes ≤ INPUT_LIMIT → HasProtocol bytes (Err e) → Reads input Answers a → (a ≡ refused (input_refusal e)) ⊎ (a ≡ refused ReadFault)
+  pub spelled : (p : Protocol) → length bytes ≤ INPUT_LIMIT → IsText bytes p → Reads input Answers a → Answers p a ⊎ (a ≡ refused ReadFault)
+  pub taken : Tells input → IsTooLong input → Reads input Answers a → a ≡ refused TooLong
+
+-- the options and the protocol choose the row of a search
+pub record SearchChooses (options : Options) (p : Protocol) (a : Answer) : Type 0 where
+  pub report : (t : Option Template) → IsSmall p → NamesBy options.breadth t → Searches options p a → Reports options p a
+  pub unbuilt : IsUnbuilt options p → Searches options p a → a ≡ refused Unbuilt
 
 abbrev pub RowsExcludeEachOther : Type 0
-RowsExcludeEachOther = (command : Option Command) (input : Change) → RowsExclude command input × CheckRowsExclude command input
+RowsExcludeEachOther =
+    ((command : Option Command) (input : Change) (a : Answer) → WordsChoose command input a)
+    × ((options : Options) (input : Change) (bytes : List ℕ) (a : Answer) → input.before ≡ Some bytes → InputChooses input bytes (Searches options) a)
+    × ((input : Change) (bytes : List ℕ) (a : Answer) → input.before ≡ Some bytes → InputChooses input bytes Prints a)
+    × ((options : Options) (p : Protocol) (a : Answer) → SearchChooses options p a)
 
--- a text spells one protocol at most
-abbrev pub TextsAreOne : Type 0
-TextsAreOne = (text : List ℕ) (p q : Protocol) → IsText text p → IsText text q → p ≡ q
-
--- the words and the bytes of the input fix a report, each byte of it
+-- the options and the protocol fix a report, each byte of it
 abbrev pub OneReport : Type 0
-OneReport = (command : Option Command) (input : Change) (a b : Answer) → Tells input → Reports command input a → Reports command input b → a ≡ b
+OneReport = (options : Options) (p : Protocol) (a b : Answer) → Reports options p a → Reports options p b → a ≡ b
+
+-- the words and the bytes that the source told fix the answer, but for want of memory and failed
+-- reads: of `run`, and of `run_check`
+abbrev pub OneAnswer : Type 0
+OneAnswer =
+    (command : Option Command) (i j : Change) (bytes : List ℕ) (a b : Answer) → i.before ≡ Some bytes → j.before ≡ Some bytes
+    → (Allowed command i a → Allowed command j b → (IsLost a ⊎ IsLost b) ⊎ (a ≡ b))
+    × (AllowedCheck command i a → AllowedCheck command j b → (IsLost a ⊎ IsLost b) ⊎ (a ≡ b))

@@ -17,15 +17,8 @@ is_plain options = options.workers == 1 && is_none options.finish && is_none opt
 -- a command that is served, as far as the words decide it
 abbrev pub is_served : Command → Bool
 is_served (Synth options) = is_plain options
+is_served Print = true
 is_served _ = false
-
--- the words ask for this search, and it is served; `None` stands for words that are no command
-pub record Asks (command : Option Command) (options : Options) : Type 0 where
-  pub synth : command ≡ Some (Synth options)
-  pub plain : is_plain options ≡ true
-
-abbrev pub IsServed : Option Command → Type 0
-IsServed command = (options : Options) × Asks command options
 
 -- the commands that need no workers
 abbrev pub is_check : Command → Bool
@@ -56,11 +49,9 @@ pub data NamesBy (breadth : Option (List ℕ)) (t : Option Template) : Type 0 wh
   without : breadth ≡ None → t ≡ None → NamesBy breadth t
   literals : (text : List ℕ) (k : ℕ) → breadth ≡ Some text → NamesTemplate text k → t ≡ Some (small_template k) → NamesBy breadth t
 
--- the words ask for a search that is served, with this breadth template or without one
-pub record Names (command : Option Command) (t : Option Template) : Type 0 where
-  pub options : Options
-  pub asks : Asks command options
-  pub by_text : NamesBy options.breadth t
+-- the options name no template that is served, and do not leave it out
+abbrev pub NamesNone : Options → Type 0
+NamesNone options = (t : Option Template) → NamesBy options.breadth t → ⊥
 
 -- what the text of `--breadth` asks for: a template that it names, or one that is not served
 abbrev pub IsAsked : Option (List ℕ) → Asked → Type 0

@@ -1,39 +1,39 @@
 // The answer to words and an input: a report, or the first refusal in order.
-ghost use Rattle.std.specs.Prelude.{◌≡◌, IfOk, MatchOption, map, string_bytes};
-ghost use Rattle.sw_meaning.specs.Small.{IsSmall};
-ghost use Rattle.sw_run.specs.Text.{IsText};
+ghost use Rattle.std.specs.Prelude.{◌≡◌, ◌⊎◌, Some, Err, map, string_bytes};
 ghost use Rattle.sw_words.specs.Grammar.{command_of};
-ghost use Rattle.sw_run.specs.Refusals.{check_refusal};
-ghost use Rattle.sw_run.specs.Ending.{SpellsNone, Allowed, AllowedCheck, change, answer_of};
+ghost use Rattle.sw_run.specs.Ending.{Allowed, AllowedCheck, Searches, change, answer_of};
 
-use crate::reader::read_text;
+use crate::input::read_input;
 use crate::report::{Report, report_on};
 use crate::told::Refusal;
 use crate::words::{Asked, asked_by, is_plain};
-use std::alloc::{AllocError, Global};
+use std::alloc::Global;
 use sw_breadth::is_small;
-use sw_edge::{Gate, Source, read_all};
-use sw_meaning::Protocol;
+use sw_edge::{Gate, Source};
+use sw_protocol::{Protocol, print_protocol};
 use sw_words::{Command, Options, read_words};
 
-/// The most bytes of an input.
-pub const INPUT_LIMIT: usize = 1_048_576;
-
-// The small protocol that a text spells, if it spells one.
-fn small_protocol(alloc: Global, text: &[u8]) -> Result<Option<Protocol>, AllocError>
-    ensures { IfOk result (λ o. MatchOption o (SpellsNone text.now) (λ p. IsText text.now p × IsSmall p)) }
+// The report that a search with these options gives of the protocol, where both are served.
+fn search_protocol<G: Gate>(
+    alloc: Global,
+    options: &Options,
+    protocol: &Protocol,
+    gate: &G,
+) -> Result<Report, Refusal>
+    ensures { Searches options.now protocol.now (answer_of result) ⊎ (result ≡ Err Refusal.NoMemory) }
 {
-    let Some(protocol) = read_text(alloc, text)? else {
-        return Ok(None);
-    };
-    if !is_small(&protocol) {
-        return Ok(None);
+    if !is_small(protocol) {
+        return Err(Refusal::Unbuilt);
     }
-    Ok(Some(protocol))
+    let Asked::Served(literals) = asked_by(options) else {
+        return Err(Refusal::Unbuilt);
+    };
+    let report = report_on(alloc, protocol, literals, gate)?;
+    Ok(report)
 }
 
-// The report that a search with these options gives of the input, or why there is none: what the
-// words alone show not to be served, then what reading meets, then what is not served.
+// The answer to a search: what the words alone show not to be served, then what reading meets, then
+// what is not served.
 fn search<S: Source, G: Gate>(
     alloc: Global,
     options: &Options,
@@ -47,23 +47,30 @@ fn search<S: Source, G: Gate>(
     if !is_plain(options) {
         return Err(Refusal::Unbuilt);
     }
-    let bytes = read_all(alloc, source, INPUT_LIMIT)?;
-    let Some(protocol) = small_protocol(alloc, bytes.as_slice())? else {
-        return Err(Refusal::Unbuilt);
-    };
-    let Asked::Served(literals) = asked_by(options) else {
-        return Err(Refusal::Unbuilt);
-    };
-    let report = report_on(alloc, &protocol, literals, gate)?;
-    Ok(report)
+    let protocol = read_input(alloc, source)?;
+    search_protocol(alloc, options, &protocol, gate)
 }
 
-// The answer to a command that needs no workers: none is served yet, and others are not meant here.
-fn check(command: &Command) -> Result<Report, Refusal>
-    ensures { result ≡ Err (check_refusal command.now) }
+// The canonical text of the protocol that the input is a text of.
+fn print<S: Source>(alloc: Global, source: &mut S) -> Result<Report, Refusal>
+    ensures { Allowed (Some Command.Print)
+        (change (S.left source.old) (S.left source.new) (S.faults source.old) (S.faults source.new))
+        (answer_of result) }
+{
+    let protocol = read_input(alloc, source)?;
+    let text = print_protocol(alloc, &protocol)?;
+    Ok(Report { status: 0, text })
+}
+
+// The answer to a command that needs no workers; others are not meant here.
+fn check<S: Source>(alloc: Global, command: &Command, source: &mut S) -> Result<Report, Refusal>
+    ensures { AllowedCheck (Some command.now)
+        (change (S.left source.old) (S.left source.new) (S.faults source.old) (S.faults source.new))
+        (answer_of result) }
 {
     match command {
-        Command::Space(_) | Command::Print | Command::Check => Err(Refusal::Unbuilt),
+        Command::Print => print(alloc, source),
+        Command::Space(_) | Command::Check => Err(Refusal::Unbuilt),
         _ => Err(Refusal::Usage),
     }
 }
@@ -84,12 +91,11 @@ pub fn answer<S: Source, G: Gate>(
     match &command {
         Command::Synth(options) => search(alloc, options, source, gate),
         Command::Certify(_) | Command::Drill(_, _) => Err(Refusal::Unbuilt),
-        _ => check(&command),
+        _ => check(alloc, &command, source),
     }
 }
 
 /// The answer to words that are one of the commands that need no workers, and Usage to others.
-/// Nothing is read of the source yet.
 pub fn answer_check<S: Source>(
     alloc: Global,
     words: &[String],
@@ -99,7 +105,6 @@ pub fn answer_check<S: Source>(
         (change (S.left source.old) (S.left source.new) (S.faults source.old) (S.faults source.new))
         (answer_of result) }
 {
-    let _ = source;
     let command = read_words(alloc, words)?;
-    check(&command)
+    check(alloc, &command, source)
 }

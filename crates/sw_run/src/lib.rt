@@ -2,13 +2,15 @@
 #![tactic(auto)]
 
 mod answer;
+mod faults;
+mod input;
 pub mod laws;
-mod reader;
 mod report;
 mod told;
 mod top;
 mod words;
 
+pub use faults::Fault;
 pub use report::Report;
 pub use told::{Refusal, tell};
 pub use top::{Status, run, run_check};

@@ -1,4 +1,4 @@
-// What whole runs write, over a source and sinks in memory.
+//! What whole runs write, over a source and sinks in memory.
 use crate::{run, run_check};
 use std::alloc::Global;
 use std::process::Abort;
@@ -13,6 +13,8 @@ const SWAP: &str =
 const SWAP_REPORT: &str =
     "classes 10\ninvariant a | b\ninvariant !a | !b\nclosed under single formulas\nverdict safe\n";
 
+const SORTS: &str = "sort node; mutable relation p(node);";
+
 const USAGE: &str =
     "usage: swiss synth|certify [--breadth TEXT] [--finish TEXT] [--workers N] [--conflicts K], check, print, space TEXT, drill N [--workers N]\n";
 
@@ -24,26 +26,35 @@ struct Ended {
     err: Vec<u8>,
 }
 
-// A run of these words on these bytes, with turns for the source and for `out`.
+// The words of a command line, which are parted by `|` here.
+fn texts(alloc: Global, line: &str) -> Result<Vec<String>, Fail> {
+    let mut texts = Vec::new(alloc);
+    if line.is_empty() {
+        return Ok(texts);
+    }
+    for word in line.split('|') {
+        texts.push(String::from_str(alloc, word)?)?;
+    }
+    Ok(texts)
+}
+
+// A run of this command line on these bytes, with turns for the source and for `out`.
 fn run_on<R: Threads + Wait + Sync>(
     rt: &R,
     alloc: Global,
-    words: &[&str],
+    line: &str,
     bytes: Vec<u8>,
     reads: &[Turn],
     writes: &[Turn],
 ) -> Result<Ended, Fail> {
-    let mut texts = Vec::new(alloc);
-    for word in words {
-        texts.push(String::from_str(alloc, word)?)?;
-    }
+    let words = texts(alloc, line)?;
     let mut source = MemSource::new(bytes, reads.to_vec(alloc)?);
     let mut out = MemSink::new(alloc, 1000, writes.to_vec(alloc)?)?;
     let mut err = MemSink::new(alloc, 1000, Vec::new(alloc))?;
     let status = run(
         rt,
         alloc,
-        &texts,
+        &words,
         &mut source,
         &mut out,
         &mut err,
@@ -56,209 +67,264 @@ fn run_on<R: Threads + Wait + Sync>(
     })
 }
 
-// Asserts what a run of these words on this text ends with.
-fn ends_with<R: Threads + Wait + Sync + Abort>(
-    rt: &R,
+// The same of the call that needs no threads.
+fn check_on(
     alloc: Global,
-    words: &[&str],
-    text: &str,
-    status: u8,
-    out: &str,
-    err: &str,
-) -> Result<(), Fail> {
-    let ended = run_on(rt, alloc, words, text.as_bytes().to_vec(alloc)?, &[], &[])?;
+    line: &str,
+    bytes: Vec<u8>,
+    reads: &[Turn],
+    writes: &[Turn],
+) -> Result<Ended, Fail> {
+    let words = texts(alloc, line)?;
+    let mut source = MemSource::new(bytes, reads.to_vec(alloc)?);
+    let mut out = MemSink::new(alloc, 1000, writes.to_vec(alloc)?)?;
+    let mut err = MemSink::new(alloc, 1000, Vec::new(alloc))?;
+    let status = run_check(alloc, &words, &mut source, &mut out, &mut err);
+    Ok(Ended {
+        status,
+        out: out.bytes().clone()?,
+        err: err.bytes().clone()?,
+    })
+}
+
+// Asserts what a run ended with.
+fn is_ended<R: Abort>(rt: &R, ended: &Ended, status: u8, out: &[u8], err: &[u8]) {
+    assert_eq!(rt; ended.err.as_slice(), err);
+    assert_eq!(rt; ended.out.as_slice(), out);
     assert_eq!(rt; ended.status, status);
-    assert_eq!(rt; ended.out.as_slice(), out.as_bytes());
-    assert_eq!(rt; ended.err.as_slice(), err.as_bytes());
-    Ok(())
 }
 
-#[test]
-fn the_swap_of_two_switches_is_safe(rt: HostRuntime) -> Result<(), Fail> {
-    assert_eq!(rt; SWAP_REPORT.len(), 87);
-    ends_with(
-        &rt,
-        rt.alloc(),
-        &["synth", "--breadth", "literals 2"],
-        SWAP,
-        0,
-        SWAP_REPORT,
-        "",
-    )
-}
-
-#[test]
-fn a_candidate_is_tried_again_under_a_later_entry(rt: HostRuntime) -> Result<(), Fail> {
-    ends_with(
-        &rt,
-        rt.alloc(),
-        &["synth", "--breadth", "literals 1"],
-        "mutable relation x; mutable relation y; init !x & !y; transition t modifies x: y & x'; safety !x;",
-        0,
-        "classes 4\ninvariant !y\ninvariant !x\nclosed under single formulas\nverdict safe\n",
-        "",
-    )
-}
-
-#[test]
-fn without_a_start_everything_is_inductive(rt: HostRuntime) -> Result<(), Fail> {
-    ends_with(
-        &rt,
-        rt.alloc(),
-        &["synth", "--breadth", "literals 1"],
-        "mutable relation a; init a & !a;",
-        0,
-        "classes 2\ninvariant a\ninvariant !a\nclosed under single formulas\nverdict safe\n",
-        "",
-    )
-}
-
-#[test]
-fn an_unsafe_start_is_a_violation(rt: HostRuntime) -> Result<(), Fail> {
-    ends_with(
-        &rt,
-        rt.alloc(),
-        &["synth", "--breadth", "literals 1"],
-        "mutable relation a; init a; safety !a;",
-        11,
-        "classes 2\ninvariant a\nclosed under single formulas\nverdict violated\n",
-        "",
-    )
-}
-
-#[test]
-fn an_unsafe_step_leaves_the_verdict_open(rt: HostRuntime) -> Result<(), Fail> {
-    let text = "mutable relation a; init !a; transition set modifies a: a'; safety !a;";
-    ends_with(
-        &rt,
-        rt.alloc(),
-        &["synth", "--breadth", "literals 1"],
-        text,
-        10,
-        "classes 2\nclosed under single formulas\nverdict open\n",
-        "",
-    )?;
-    ends_with(
-        &rt,
-        rt.alloc(),
-        &["synth"],
-        text,
-        10,
-        "classes 0\nverdict open\n",
-        "",
-    )
-}
-
-#[test]
-fn what_is_not_served_is_refused(rt: HostRuntime) -> Result<(), Fail> {
-    ends_with(
-        &rt,
-        rt.alloc(),
-        &["synth"],
-        "sort node; mutable relation p(node);",
-        3,
-        "",
-        "swiss: Unbuilt\n",
-    )?;
-    ends_with(
-        &rt,
-        rt.alloc(),
-        &["synth", "--breadth", "literals 4"],
-        SWAP,
-        3,
-        "",
-        "swiss: Unbuilt\n",
-    )
-}
-
-#[test]
-fn words_that_are_no_command_are_told_the_usage(rt: HostRuntime) -> Result<(), Fail> {
-    let alloc = rt.alloc();
-    ends_with(&rt, alloc, &[], SWAP, 2, "", USAGE)?;
-    let no_workers = ["synth", "--workers", "0"];
-    ends_with(&rt, alloc, &no_workers, SWAP, 2, "", USAGE)?;
-    ends_with(&rt, alloc, &["synth", "--finish"], SWAP, 2, "", USAGE)?;
-    let twice = ["synth", "--workers", "2", "--workers", "2"];
-    ends_with(&rt, alloc, &twice, SWAP, 2, "", USAGE)?;
-    ends_with(&rt, alloc, &["drill", "2"], SWAP, 2, "", USAGE)?;
-    let more = ["synth", "--breadth", "literals 2", "more"];
-    ends_with(&rt, alloc, &more, SWAP, 2, "", USAGE)
-}
-
-#[test]
-fn one_worker_and_a_value_behind_an_equals_sign_are_served(rt: HostRuntime) -> Result<(), Fail> {
-    ends_with(
-        &rt,
-        rt.alloc(),
-        &["synth", "--workers=1", "--breadth=literals 2"],
-        SWAP,
-        0,
-        SWAP_REPORT,
-        "",
-    )
-}
-
-// A run of these words on a source that fails at the first read is refused as not served.
-fn is_not_served<R: Threads + Wait + Sync + Abort>(
+// Asserts the status and the report of a search with each template over each text.
+fn report<R: Threads + Wait + Sync + Abort>(
     rt: &R,
     alloc: Global,
-    words: &[&str],
+    rows: &[(&str, &str, u8, &str)],
 ) -> Result<(), Fail> {
-    let ended = run_on(rt, alloc, words, Vec::new(alloc), &[Turn::Fail], &[])?;
-    assert_eq!(rt; ended.status, 3);
-    assert_eq!(rt; ended.out.len(), 0);
-    assert_eq!(rt; ended.err.as_slice(), b"swiss: Unbuilt\n".as_slice());
+    for (breadth, text, status, report) in rows {
+        let line = format!(in alloc; "synth|--breadth|{breadth}")?;
+        let bytes = text.as_bytes().to_vec(alloc)?;
+        let ended = run_on(rt, alloc, line.as_str(), bytes, &[], &[])?;
+        is_ended(rt, &ended, *status, report.as_bytes(), b"");
+    }
     Ok(())
 }
 
 #[test]
-fn what_the_words_show_not_to_be_served_is_refused_before_reading(
+fn small_protocols_have_these_reports(rt: HostRuntime) -> Result<(), Fail> {
+    assert_eq!(rt; SWAP_REPORT.len(), 87);
+    let rows = [
+        ("literals 2", SWAP, 0, SWAP_REPORT),
+        // each connective, with the same meaning
+        (
+            "literals 2",
+            "mutable relation a; mutable relation b; init true & !(a -> b); transition swap modifies a, b: (a <-> !b) & (b -> false) & (a' <-> b) & b'; safety a -> !b;",
+            0,
+            SWAP_REPORT,
+        ),
+        // a candidate is tried again under a later entry
+        (
+            "literals 1",
+            "mutable relation x; mutable relation y; init !x & !y; transition t modifies x: y & x'; safety !x;",
+            0,
+            "classes 4\ninvariant !y\ninvariant !x\nclosed under single formulas\nverdict safe\n",
+        ),
+        // without a start everything is inductive
+        (
+            "literals 1",
+            "mutable relation a; init a & !a;",
+            0,
+            "classes 2\ninvariant a\ninvariant !a\nclosed under single formulas\nverdict safe\n",
+        ),
+        // an unsafe start is a violation
+        (
+            "literals 1",
+            "mutable relation a; init a; safety !a;",
+            11,
+            "classes 2\ninvariant a\nclosed under single formulas\nverdict violated\n",
+        ),
+        // an unsafe step leaves the verdict open
+        (
+            "literals 1",
+            "mutable relation a; init !a; transition set modifies a: a'; safety !a;",
+            10,
+            "classes 2\nclosed under single formulas\nverdict open\n",
+        ),
+    ];
+    report(&rt, rt.alloc(), rows.as_slice())
+}
+
+// Asserts that a run of this command line on each text is refused with this line.
+fn refuse<R: Threads + Wait + Sync + Abort>(
+    rt: &R,
+    alloc: Global,
+    line: &str,
+    rows: &[(&str, &str)],
+) -> Result<(), Fail> {
+    for (text, refusal) in rows {
+        let bytes = text.as_bytes().to_vec(alloc)?;
+        let ended = run_on(rt, alloc, line, bytes, &[], &[])?;
+        is_ended(rt, &ended, 3, b"", refusal.as_bytes());
+    }
+    Ok(())
+}
+
+#[test]
+fn what_a_search_does_not_serve_is_refused_after_the_faults_of_the_text(
     rt: HostRuntime,
 ) -> Result<(), Fail> {
-    let alloc = rt.alloc();
-    is_not_served(&rt, alloc, &["certify"])?;
-    is_not_served(&rt, alloc, &["certify", "--breadth", "literals 2"])?;
-    is_not_served(&rt, alloc, &["space", "literals 2"])?;
-    is_not_served(&rt, alloc, &["print"])?;
-    is_not_served(&rt, alloc, &["check"])?;
-    is_not_served(&rt, alloc, &["drill", "6"])?;
-    is_not_served(&rt, alloc, &["synth", "--finish", "literals 1"])?;
-    is_not_served(&rt, alloc, &["synth", "--conflicts", "1"])?;
-    is_not_served(&rt, alloc, &["synth", "--workers", "2"])
+    let rows = [
+        (SORTS, "swiss: Unbuilt\n"),
+        ("immutable relation a;", "swiss: Unbuilt\n"),
+        ("mutable relation a; axiom true;", "swiss: Unbuilt\n"),
+        (
+            "mutable relation a; mutable relation b; mutable relation c; mutable relation d; mutable relation e; mutable relation f; mutable relation g; mutable relation h; mutable relation i;",
+            "swiss: Unbuilt\n",
+        ),
+        ("sort n; sort n;", "swiss: Twice at 13\n"),
+    ];
+    refuse(&rt, rt.alloc(), "synth", rows.as_slice())?;
+    let rows = [
+        (SWAP, "swiss: Unbuilt\n"),
+        ("a $", "swiss: BadByte at 2\n"),
+        ("sort n; init q;", "swiss: Unknown at 13\n"),
+    ];
+    refuse(
+        &rt,
+        rt.alloc(),
+        "synth|--breadth|literals 4",
+        rows.as_slice(),
+    )
 }
 
-// A run of these words by the call that needs no threads, on a source that fails at the first read.
-fn check_ends_with<R: Abort>(
+// Asserts what each command line ends with on a source that fails at the first read.
+fn unread<R: Threads + Wait + Sync + Abort>(
     rt: &R,
     alloc: Global,
-    words: &[&str],
+    lines: &[&str],
     status: u8,
-    line: &str,
+    err: &str,
 ) -> Result<(), Fail> {
-    let mut texts = Vec::new(alloc);
-    for word in words {
-        texts.push(String::from_str(alloc, word)?)?;
+    for line in lines {
+        let ended = run_on(rt, alloc, line, Vec::new(alloc), &[Turn::Fail], &[])?;
+        is_ended(rt, &ended, status, b"", err.as_bytes());
     }
-    let mut source = MemSource::new(Vec::new(alloc), [Turn::Fail].to_vec(alloc)?);
-    let mut out = MemSink::new(alloc, 1000, Vec::new(alloc))?;
-    let mut err = MemSink::new(alloc, 1000, Vec::new(alloc))?;
-    let ended = run_check(alloc, &texts, &mut source, &mut out, &mut err);
-    assert_eq!(rt; ended, status);
-    assert_eq!(rt; out.bytes().len(), 0);
-    assert_eq!(rt; err.bytes().as_slice(), line.as_bytes());
+    Ok(())
+}
+
+#[test]
+fn what_the_words_decide_is_told_before_reading(rt: HostRuntime) -> Result<(), Fail> {
+    let none = [
+        "",
+        "synth|--workers|0",
+        "synth|--finish",
+        "synth|--workers|2|--workers|2",
+        "drill|2",
+        "synth|--breadth|literals 2|more",
+    ];
+    unread(&rt, rt.alloc(), none.as_slice(), 2, USAGE)?;
+    let unserved = [
+        "certify",
+        "certify|--breadth|literals 2",
+        "space|literals 2",
+        "check",
+        "drill|6",
+        "synth|--finish|literals 1",
+        "synth|--conflicts|1",
+        "synth|--workers|2",
+    ];
+    unread(&rt, rt.alloc(), unserved.as_slice(), 3, "swiss: Unbuilt\n")
+}
+
+// Asserts the same of the call that needs no threads.
+fn check_unread<R: Abort>(
+    rt: &R,
+    alloc: Global,
+    lines: &[&str],
+    status: u8,
+    err: &str,
+) -> Result<(), Fail> {
+    for line in lines {
+        let ended = check_on(alloc, line, Vec::new(alloc), &[Turn::Fail], &[])?;
+        is_ended(rt, &ended, status, b"", err.as_bytes());
+    }
     Ok(())
 }
 
 #[test]
 fn the_call_without_threads_has_three_commands(rt: HostRuntime) -> Result<(), Fail> {
-    let alloc = rt.alloc();
-    check_ends_with(&rt, alloc, &["print"], 3, "swiss: Unbuilt\n")?;
-    check_ends_with(&rt, alloc, &["check"], 3, "swiss: Unbuilt\n")?;
-    check_ends_with(&rt, alloc, &["space", "literals 2"], 3, "swiss: Unbuilt\n")?;
-    check_ends_with(&rt, alloc, &["space"], 2, USAGE)?;
-    check_ends_with(&rt, alloc, &["synth"], 2, USAGE)?;
-    check_ends_with(&rt, alloc, &["drill", "6"], 2, USAGE)?;
-    check_ends_with(&rt, alloc, &[], 2, USAGE)
+    let unserved = ["check", "space|literals 2"];
+    check_unread(&rt, rt.alloc(), unserved.as_slice(), 3, "swiss: Unbuilt\n")?;
+    let others = ["", "space", "print|more", "synth", "drill|6"];
+    check_unread(&rt, rt.alloc(), others.as_slice(), 2, USAGE)?;
+    let print = ["print"];
+    check_unread(&rt, rt.alloc(), print.as_slice(), 5, "swiss: read fault\n")
+}
+
+// Asserts that `print` gives these lines of each text.
+fn print<R: Abort>(rt: &R, alloc: Global, rows: &[(&str, &str)]) -> Result<(), Fail> {
+    for (text, lines) in rows {
+        let bytes = text.as_bytes().to_vec(alloc)?;
+        let ended = check_on(alloc, "print", bytes, &[], &[])?;
+        is_ended(rt, &ended, 0, lines.as_bytes(), b"");
+    }
+    Ok(())
+}
+
+const RING_LINES: &str =
+    "sort node;\nimmutable relation le(node, node);\nimmutable function next(node): node;\nimmutable constant first: node;\nmutable relation holds(node);\naxiom forall X: node, Y: node. (le(X, Y) & le(Y, X)) -> X = Y;\ninit forall N: node. holds(N) <-> N = first;\ntransition pass(a: node) modifies holds: holds(a) & next(a) != a & (forall N: node. holds'(N) <-> N = next(a));\nsafety forall A: node, B: node. (holds(A) & holds(B)) -> A = B;\n";
+
+#[test]
+fn print_gives_each_declaration_on_a_line_of_its_own(rt: HostRuntime) -> Result<(), Fail> {
+    let rows = [
+        (
+            "mutable relation x; mutable relation y; init !x & !y; transition t modifies x: y & x'; safety !x;",
+            "mutable relation x;\nmutable relation y;\ninit !x & !y;\ntransition t modifies x: y & x';\nsafety !x;\n",
+        ),
+        (SORTS, "sort node;\nmutable relation p(node);\n"),
+        ("# nothing\n", ""),
+        // other blanks, brackets and comments
+        (
+            "sort node;immutable relation le(node,node);immutable function next(node):node;immutable constant first:node; # the ring\nmutable relation holds(node);axiom forall X:node,Y:node.le(X,Y)&le(Y,X)->X=Y;init forall N:node.(holds(N)<->N=first);transition pass(a:node)modifies holds:holds(a)&!(next(a)=a)&(forall N:node.holds'(N)<->N=next(a));safety (forall A:node,B:node.((holds(A)&holds(B))->A=B));",
+            RING_LINES,
+        ),
+        // what was printed prints as it is
+        (RING_LINES, RING_LINES),
+    ];
+    print(&rt, rt.alloc(), rows.as_slice())
+}
+
+#[test]
+fn print_tells_the_first_fault_of_the_text_with_its_place(rt: HostRuntime) -> Result<(), Fail> {
+    let rows = [
+        ("a $", "swiss: BadByte at 2\n"),
+        ("sort ;", "swiss: Syntax at 5\n"),
+        ("init q;", "swiss: Unknown at 5\n"),
+        ("sort n; sort n;", "swiss: Twice at 13\n"),
+        (
+            "sort n; mutable relation p(n); init p;",
+            "swiss: Arity at 36\n",
+        ),
+        (
+            "sort n; sort m; immutable constant c: m; mutable relation p(n); init p(c);",
+            "swiss: SortMismatch at 71\n",
+        ),
+        ("mutable relation a; init a';", "swiss: PostState at 25\n"),
+        (
+            "mutable relation a; axiom a;",
+            "swiss: AxiomMutable at 26\n",
+        ),
+        (
+            "mutable relation a; transition t: a';",
+            "swiss: NotModified at 34\n",
+        ),
+    ];
+    refuse(&rt, rt.alloc(), "print", rows.as_slice())?;
+    let mut deep = b"init ".to_vec(rt.alloc())?;
+    deep.extend_from_slice(&[b'!'; 257])?;
+    deep.extend_from_slice(b"a;")?;
+    let ended = check_on(rt.alloc(), "print", deep, &[], &[])?;
+    is_ended(&rt, &ended, 3, b"", b"swiss: TooDeep at 261\n");
+    Ok(())
 }
 
 #[test]
@@ -266,48 +332,43 @@ fn a_failed_read_is_told(rt: HostRuntime) -> Result<(), Fail> {
     let ended = run_on(
         &rt,
         rt.alloc(),
-        &["synth", "--breadth", "literals 2"],
+        "synth|--breadth|literals 2",
         SWAP.as_bytes().to_vec(rt.alloc())?,
         &[Turn::Take(100), Turn::Fail],
         &[],
     )?;
-    assert_eq!(rt; ended.status, 5);
-    assert_eq!(rt; ended.out.len(), 0);
-    assert_eq!(rt; ended.err.as_slice(), b"swiss: read fault\n".as_slice());
+    is_ended(&rt, &ended, 5, b"", b"swiss: read fault\n");
     Ok(())
 }
 
 #[test]
-fn a_failed_write_leaves_the_front_of_the_report(rt: HostRuntime) -> Result<(), Fail> {
+fn a_failed_write_leaves_the_front_of_the_text(rt: HostRuntime) -> Result<(), Fail> {
+    let bytes = SWAP.as_bytes().to_vec(rt.alloc())?;
+    let writes = [Turn::Take(10), Turn::Fail];
     let ended = run_on(
         &rt,
         rt.alloc(),
-        &["synth", "--breadth", "literals 2"],
-        SWAP.as_bytes().to_vec(rt.alloc())?,
+        "synth|--workers=1|--breadth=literals 2",
+        bytes,
         &[],
-        &[Turn::Take(10), Turn::Fail],
+        writes.as_slice(),
     )?;
-    assert_eq!(rt; ended.status, 6);
-    assert_eq!(rt; ended.out.as_slice(), b"classes 10".as_slice());
-    assert_eq!(rt; ended.err.len(), 0);
+    is_ended(&rt, &ended, 6, b"classes 10", b"");
+
+    let bytes = SWAP.as_bytes().to_vec(rt.alloc())?;
+    let ended = check_on(rt.alloc(), "print", bytes, &[], writes.as_slice())?;
+    is_ended(&rt, &ended, 6, b"mutable re", b"");
     Ok(())
 }
 
 #[test]
 fn the_longest_input_is_a_comment_of_1048576_bytes(rt: HostRuntime) -> Result<(), Fail> {
     let long = vec![in rt.alloc(); b'#'; 1_048_577]?;
-    let ended = run_on(&rt, rt.alloc(), &["synth"], long, &[], &[])?;
-    assert_eq!(rt; ended.status, 3);
-    assert_eq!(rt; ended.out.len(), 0);
-    assert_eq!(rt; ended.err.as_slice(), b"swiss: input too long\n".as_slice());
+    let ended = run_on(&rt, rt.alloc(), "synth", long, &[], &[])?;
+    is_ended(&rt, &ended, 3, b"", b"swiss: input too long\n");
 
     let longest = vec![in rt.alloc(); b'#'; 1_048_576]?;
-    let ended = run_on(&rt, rt.alloc(), &["synth"], longest, &[], &[])?;
-    assert_eq!(rt; ended.status, 0);
-    assert_eq!(rt;
-        ended.out.as_slice(),
-        b"classes 0\nverdict safe\n".as_slice()
-    );
-    assert_eq!(rt; ended.err.len(), 0);
+    let ended = run_on(&rt, rt.alloc(), "synth", longest, &[], &[])?;
+    is_ended(&rt, &ended, 0, b"classes 0\nverdict safe\n", b"");
     Ok(())
 }

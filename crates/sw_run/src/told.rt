@@ -1,10 +1,12 @@
 // Refusals, and how a report or a refusal is told.
 ghost use Rattle.std.specs.Prelude.{◌≡◌};
-ghost use Rattle.sw_run.specs.Ending.{refusal_status, refusal_line, answer_of, Is, Ends, change};
+ghost use Rattle.sw_run.specs.Ending.{answer_of, Ends, Writes, TellsRefusal, IsOrLacksMemory, change};
 
+use crate::faults::Fault;
 use crate::report::Report;
-use std::alloc::AllocError;
+use std::alloc::{AllocError, Global};
 use sw_edge::{ReadError, Sink, write_all};
+use sw_protocol::ProtocolError;
 use sw_words::WordsError;
 
 /// The status of a run whose text or line could not be written.
@@ -15,6 +17,8 @@ const WRITE_FAULT: u8 = 6;
 pub enum Refusal {
     Usage,
     TooLong,
+    /// The text of the input has this fault at this byte, from 0.
+    Faulty(Fault, u32),
     Unbuilt,
     ReadFault,
     NoMemory,
@@ -44,9 +48,9 @@ impl From<WordsError> for Refusal {
 }
 
 impl From<ReadError> for Refusal {
-    ghost use Rattle.sw_run.specs.Refusals.{refusal_of};
+    ghost use Rattle.sw_run.specs.Refusals.{read_refusal};
 
-    ghost from_gives = { λ error refusal. refusal ≡ refusal_of error };
+    ghost from_gives = { λ error refusal. refusal ≡ read_refusal error };
 
     fn from(error: ReadError) -> Refusal {
         match error {
@@ -57,48 +61,77 @@ impl From<ReadError> for Refusal {
     }
 }
 
-impl Refusal {
-    fn status(self) -> u8
-        ensures { result ≡ refusal_status self }
-    {
-        match self {
-            Refusal::Usage => 2,
-            Refusal::TooLong | Refusal::Unbuilt => 3,
-            Refusal::ReadFault => 5,
-            Refusal::NoMemory => 7,
-        }
-    }
+impl From<ProtocolError> for Refusal {
+    ghost use Rattle.sw_run.specs.Refusals.{input_refusal};
 
-    fn line(self) -> &'static str
-        ensures { result.now ≡ refusal_line self }
-    {
-        match self {
-            Refusal::Usage => {
-                "usage: swiss synth|certify [--breadth TEXT] [--finish TEXT] [--workers N] [--conflicts K], check, print, space TEXT, drill N [--workers N]\n"
-            }
-            Refusal::TooLong => "swiss: input too long\n",
-            Refusal::Unbuilt => "swiss: Unbuilt\n",
-            Refusal::ReadFault => "swiss: read fault\n",
-            Refusal::NoMemory => "swiss: out of memory\n",
+    ghost from_gives = { λ error refusal. refusal ≡ input_refusal error };
+
+    fn from(error: ProtocolError) -> Refusal {
+        match error {
+            ProtocolError::BadByte { at } => Refusal::Faulty(Fault::BadByte, at),
+            ProtocolError::Syntax { at } => Refusal::Faulty(Fault::Syntax, at),
+            ProtocolError::TooDeep { at } => Refusal::Faulty(Fault::TooDeep, at),
+            ProtocolError::Broken(broken) => Refusal::Faulty(Fault::Broken(broken.rule), broken.at),
+            ProtocolError::Memory => Refusal::NoMemory,
         }
     }
 }
 
-/// Writes a report to `out`, or a refusal's line to `err`, and gives the status to end with.
-pub fn tell<O: Sink, E: Sink>(told: &Result<Report, Refusal>, out: &mut O, err: &mut E) -> u8
-    ensures { Ends (Is (answer_of told.now))
+// Writes the text, and gives this status, or the one of a failed write.
+fn write_text<O: Sink>(sink: &mut O, text: &str, status: u8) -> u8
+    ensures { Writes (change (O.held sink.old) (O.held sink.new) (O.faults sink.old) (O.faults sink.new)) text.now status result }
+{
+    match write_all(sink, text.as_bytes()) {
+        Ok(()) => status,
+        Err(_) => WRITE_FAULT,
+    }
+}
+
+// Writes the line of a fault of the input, or that memory ran out before the line was made.
+fn tell_fault<E: Sink>(alloc: Global, fault: Fault, at: u32, err: &mut E) -> u8
+    ensures { TellsRefusal (Refusal.Faulty fault at)
+        (change (E.held err.old) (E.held err.new) (E.faults err.old) (E.faults err.new)) result }
+{
+    match fault.line(alloc, at) {
+        Ok(line) => write_text(err, line.as_str(), 3),
+        Err(_) => write_text(err, "swiss: out of memory\n", 7),
+    }
+}
+
+// Writes the line of a refusal, and gives the status to end with.
+fn tell_refusal<E: Sink>(alloc: Global, refusal: Refusal, err: &mut E) -> u8
+    ensures { TellsRefusal refusal
+        (change (E.held err.old) (E.held err.new) (E.faults err.old) (E.faults err.new)) result }
+{
+    match refusal {
+        Refusal::Usage => write_text(
+            err,
+            "usage: swiss synth|certify [--breadth TEXT] [--finish TEXT] [--workers N] [--conflicts K], check, print, space TEXT, drill N [--workers N]\n",
+            2,
+        ),
+        Refusal::TooLong => write_text(err, "swiss: input too long\n", 3),
+        Refusal::Faulty(fault, at) => tell_fault(alloc, fault, at, err),
+        Refusal::Unbuilt => write_text(err, "swiss: Unbuilt\n", 3),
+        Refusal::ReadFault => write_text(err, "swiss: read fault\n", 5),
+        Refusal::NoMemory => write_text(err, "swiss: out of memory\n", 7),
+    }
+}
+
+/// Writes a report to `out`, or a refusal's line to `err`, and gives the status to end with. The
+/// line of a fault of the input takes memory; where there is none, that is told in its place.
+pub fn tell<O: Sink, E: Sink>(
+    alloc: Global,
+    told: &Result<Report, Refusal>,
+    out: &mut O,
+    err: &mut E,
+) -> u8
+    ensures { Ends (IsOrLacksMemory (answer_of told.now))
         (change (O.held out.old) (O.held out.new) (O.faults out.old) (O.faults out.new))
         (change (E.held err.old) (E.held err.new) (E.faults err.old) (E.faults err.new))
         result }
 {
     match told {
-        Ok(report) => match write_all(out, report.text.as_bytes()) {
-            Ok(()) => report.status,
-            Err(_) => WRITE_FAULT,
-        },
-        Err(refusal) => match write_all(err, refusal.line().as_bytes()) {
-            Ok(()) => refusal.status(),
-            Err(_) => WRITE_FAULT,
-        },
+        Ok(report) => write_text(out, report.text.as_str(), report.status),
+        Err(refusal) => tell_refusal(alloc, *refusal, err),
     }
 }

@@ -37,11 +37,11 @@ pub fn run<H: Threads + Wait + Sync, S: Source, O: Sink, E: Sink, G: Gate + Sync
 {
     let _ = rt;
     let told = answer(alloc, words.as_slice(), source, gate);
-    tell(&told, out, err)
+    tell(alloc, &told, out, err)
 }
 
-/// Runs `space`, `print` and `check`, of which none is served yet, and answers other words with the
-/// usage line. It needs no threads and does not wait.
+/// Runs `space`, `print` and `check`, of which only `print` is served yet, and answers other words
+/// with the usage line. It needs no threads and does not wait.
 pub fn run_check<S: Source, O: Sink, E: Sink>(
     alloc: Global,
     words: &Vec<String>,
@@ -57,5 +57,5 @@ pub fn run_check<S: Source, O: Sink, E: Sink>(
         result }
 {
     let told = answer_check(alloc, words.as_slice(), source);
-    tell(&told, out, err)
+    tell(alloc, &told, out, err)
 }

@@ -1,6 +1,6 @@
 use Rattle.std.proofs.Common.{refl}
 use Rattle.sw_run.specs.Ending.{Allowed}
-use Rattle.sw_run.proofs.Rows.{check_unserved, other_is_check, unserved_kind}
+use Rattle.sw_run.proofs.Rows.{check_allowed, other_is_check, unserved_kind}
 use Rattle.sw_run.proofs.answer.answer.Goals as goal
 
 pub returns-in-Certify : goal.returns-in-Certify
@@ -9,5 +9,5 @@ returns-in-Certify g c =
 
 pub returns : goal.returns
 returns g c =
-    let kind = other_is_check c.in_ok-command.command c.in_default.not-Synth c.in_default.not-Certify c.in_default.not-Drill in
-    check_unserved _ c.in_ok-command.command _ _ c.in_ok-command.ensures.command kind.0 kind.1 c.check.ensures (record { bytes = refl; faults = refl })
+    check_allowed _ c.in_ok-command.command _ _ c.in_ok-command.ensures.command
+    (other_is_check c.in_ok-command.command c.in_default.not-Synth c.in_default.not-Certify c.in_default.not-Drill) c.check.ensures

@@ -1,0 +1,198 @@
+-- The causes of different answers exclude each other.
+use Rattle.std.specs.Prelude.{◌≡◌, ◌⊎◌, ℕ, ◌+◌, ◌<◌, ◌≤◌, true, false, List, ◌++◌, length, Option, Some, None, IfSome, Result, Ok, Err, option_map}
+use Rattle.std.proofs.Common.{refl, arith, sym, ap, ◌∙◌, subst, inl, inr, length-append}
+use Rattle.std.proofs.lemmas.Bool.{false≢true}
+use Rattle.std.proofs.lemmas.Option.{same_Some}
+use Rattle.sw_edge.specs.Edge.{Took}
+use Rattle.sw_meaning.specs.declared.protocol.Protocol.{Protocol}
+use Rattle.sw_protocol.specs.declared.texts.ProtocolError.{ProtocolError}
+use Rattle.sw_protocol.specs.Texts.{HasProtocol, IsText, OneProtocol}
+use Rattle.sw_words.specs.declared.commands.Command.{Command}
+use Rattle.sw_words.specs.declared.commands.Command.TheVariants.{Synth, Print}
+use Rattle.sw_words.specs.declared.commands.Options.{Options}
+use Rattle.sw_meaning.specs.Space.{Template}
+use Rattle.sw_meaning.specs.Small.{IsSmall}
+use Rattle.sw_run.specs.Words.{NamesBy, is_plain, is_served, asks_check}
+use Rattle.sw_run.specs.Refusals.{input_refusal}
+use Rattle.sw_run.specs.Ending.{Change, Answer, Misreads, Reads, Searches, Reports, Prints, IsInput, IsSpelled, IsUnbuilt, IsTooLong, IsUntouched, Allowed, AllowedCheck, refused}
+use Rattle.sw_run.specs.Laws.{Tells, LacksMemory, IsRefusedUnread, WordsChoose, InputChooses, SearchChooses, RowsExcludeEachOther}
+use Rattle.sw_run.specs.declared.input.TheConstants.{INPUT_LIMIT}
+use Rattle.sw_run.specs.declared.told.Refusal.TheVariants.{Usage, TooLong, Unbuilt, ReadFault, NoMemory}
+
+-- ---- words
+
+same_command : (command : Option Command) (c d : Command) → command ≡ Some c → command ≡ Some d → c ≡ d
+same_command command c d e f = same_Some c d (sym e ∙ f)
+
+pub same_options : (o p : Options) → Synth o ≡ Synth p → o ≡ p
+same_options o p is = cc
+
+no_command : (command : Option Command) (c : Command) → command ≡ None → command ≡ Some c → ⊥
+no_command command c none some = let bad : None ≡ Some c = sym none ∙ some in absurd cc
+
+other_served : (command : Option Command) (c d : Command) → command ≡ Some c → command ≡ Some d → is_served c ≡ false → is_served d ≡ true → ⊥
+other_served command c d e f off on = false≢true (sym off ∙ (ap is_served (same_command command c d e f) ∙ on))
+
+module _ (command : Option Command) (input : Change) (a : Answer) where
+  usage_alone : command ≡ None → Allowed command input a → IsRefusedUnread Usage input a ⊎ LacksMemory a
+  usage_alone none (Allowed.usage n u is) = inl (is, u)
+  usage_alone none (Allowed.unserved c some off u is) = absurd (no_command command c none some)
+  usage_alone none (Allowed.synth o some plain reads) = absurd (no_command command (Synth o) none some)
+  usage_alone none (Allowed.print some reads) = absurd (no_command command Print none some)
+  usage_alone none (Allowed.no_memory is) = inr is
+
+  unserved_alone : (c : Command) → command ≡ Some c → is_served c ≡ false → Allowed command input a → IsRefusedUnread Unbuilt input a ⊎ LacksMemory a
+  unserved_alone c some off (Allowed.usage none u is) = absurd (no_command command c none some)
+  unserved_alone c some off (Allowed.unserved d e f u is) = inl (is, u)
+  unserved_alone c some off (Allowed.synth o e plain reads) = absurd (other_served command c (Synth o) some e off plain)
+  unserved_alone c some off (Allowed.print e reads) = absurd (other_served command c Print some e off refl)
+  unserved_alone c some off (Allowed.no_memory is) = inr is
+
+  synth_alone : (o : Options) → command ≡ Some (Synth o) → is_plain o ≡ true → Allowed command input a → Reads input (Searches o) a ⊎ LacksMemory a
+  synth_alone o some on (Allowed.usage none u is) = absurd (no_command command (Synth o) none some)
+  synth_alone o some on (Allowed.unserved c e off u is) = absurd (other_served command c (Synth o) e some off on)
+  synth_alone o some on (Allowed.synth p e plain reads) =
+      let same : p ≡ o = same_options p o (same_command command (Synth p) (Synth o) e some) in inl (subst (λ q. Reads input (Searches q) a) same reads)
+  synth_alone o some on (Allowed.print e reads) = let bad : Print ≡ Synth o = same_command command Print (Synth o) e some in absurd cc
+  synth_alone o some on (Allowed.no_memory is) = inr is
+
+  print_alone : command ≡ Some Print → Allowed command input a → Reads input Prints a ⊎ LacksMemory a
+  print_alone some (Allowed.usage none u is) = absurd (no_command command Print none some)
+  print_alone some (Allowed.unserved c e off u is) = absurd (other_served command c Print e some off refl)
+  print_alone some (Allowed.synth o e plain reads) = let bad : Print ≡ Synth o = same_command command Print (Synth o) some e in absurd cc
+  print_alone some (Allowed.print e reads) = inl reads
+  print_alone some (Allowed.no_memory is) = inr is
+
+  check_usage_alone : asks_check command ≡ false → AllowedCheck command input a → IsRefusedUnread Usage input a ⊎ LacksMemory a
+  check_usage_alone off (AllowedCheck.usage n u is) = inl (is, u)
+  check_usage_alone off (AllowedCheck.check on allowed) = absurd (false≢true (sym off ∙ on))
+  check_usage_alone off (AllowedCheck.no_memory is) = inr is
+
+  check_alone : asks_check command ≡ true → AllowedCheck command input a → Allowed command input a
+  check_alone on (AllowedCheck.usage off u is) = absurd (false≢true (sym off ∙ on))
+  check_alone on (AllowedCheck.check some allowed) = allowed
+  check_alone on (AllowedCheck.no_memory is) = Allowed.no_memory is
+
+  pub words_choose : WordsChoose command input a
+  words_choose = record {
+    usage = usage_alone;
+    unserved = unserved_alone;
+    synth = synth_alone;
+    print = print_alone;
+    check_usage = check_usage_alone;
+    check = check_alone;
+  }
+
+-- ---- input
+
+same_fault : (e f : ProtocolError) → ◌≡◌ {A = Result Protocol ProtocolError} (Err e) (Err f) → e ≡ f
+same_fault e f is = cc
+
+same_protocol : (p q : Protocol) → ◌≡◌ {A = Result Protocol ProtocolError} (Ok p) (Ok q) → p ≡ q
+same_protocol p q is = cc
+
+fault_or_protocol : (e : ProtocolError) (p : Protocol) → ◌≡◌ {A = Result Protocol ProtocolError} (Err e) (Ok p) → ⊥
+fault_or_protocol e p is = cc
+
+-- so many bytes were taken, and no other number
+one_count : (input : Change) (m n : ℕ) → Tells input → Took input.before input.now m → Took input.before input.now n → m ≡ n
+one_count input m n tells a b =
+    let first : length tells.first ≡ m + length tells.last = counted m a in
+    let second : length tells.first ≡ n + length tells.last = counted n b in
+    omega arith
+  where
+    counted : (k : ℕ) → Took input.before input.now k → length tells.first ≡ k + length tells.last
+    counted k took =
+        let is : tells.first ≡ took.0 ++ tells.last =
+        same_Some tells.first (took.0 ++ tells.last) (sym tells.before ∙ (took.2 ∙ ap (option_map (λ left. took.0 ++ left)) tells.now)) in
+        omega (arith, ap length is, length-append took.0 tells.last, took.1)
+
+module _ (input : Change) (bytes : List ℕ) (told : input.before ≡ Some bytes) where
+  -- a whole input is what the source told
+  pub input_told : (whole : List ℕ) → IsInput input whole → whole ≡ bytes
+  input_told whole read = subst (λ o. IfSome o (λ left. whole ≡ left)) told read.all
+
+  -- bytes taken are among those told
+  taken_from : (now : Option (List ℕ)) (n : ℕ) (taken : List ℕ) → length taken ≡ n → Some bytes ≡ option_map (λ left. taken ++ left) now → n ≤ length bytes
+  taken_from None n taken count e = absurd cc
+  taken_from (Some last) n taken count e =
+      let is : bytes ≡ taken ++ last = same_Some bytes (taken ++ last) e in omega (arith, ap length is, length-append taken last, count)
+
+  -- more bytes were told than may be
+  pub over_limit : IsTooLong input → INPUT_LIMIT < length bytes
+  over_limit long =
+      let taken : long.count ≤ length bytes = taken_from input.now long.count long.took.0 long.took.1 (sym told ∙ long.took.2) in omega (arith, taken, long.over)
+
+  not_within : IsTooLong input → length bytes ≤ INPUT_LIMIT → ⊥
+  not_within long few = omega (arith, over_limit long, few)
+
+  -- a whole input is not too long
+  pub fits : (whole : List ℕ) → IsInput input whole → length bytes ≤ INPUT_LIMIT
+  fits whole read = omega (arith, ap length (input_told whole read), read.within)
+
+  not_over : (whole : List ℕ) → IsInput input whole → INPUT_LIMIT < length bytes → ⊥
+  not_over whole read over = omega (arith, fits whole read, over)
+
+  module _ (one : OneProtocol) (Answers : Protocol → Answer → Type 0) (a : Answer) where
+    pub too_long_alone : INPUT_LIMIT < length bytes → Reads input Answers a → (a ≡ refused TooLong) ⊎ (a ≡ refused ReadFault)
+    too_long_alone over (Reads.misread (Misreads.read_fault rose within is)) = inr is
+    too_long_alone over (Reads.misread (Misreads.too_long long is)) = inl is
+    too_long_alone over (Reads.misread (Misreads.faulty whole e read has is)) = absurd (not_over whole read over)
+    too_long_alone over (Reads.read p s is) = absurd (not_over s.bytes s.read over)
+
+    pub faulty_alone : (e : ProtocolError) → length bytes ≤ INPUT_LIMIT → HasProtocol bytes (Err e) → Reads input Answers a → (a ≡ refused (input_refusal e)) ⊎ (a ≡ refused ReadFault)
+    faulty_alone e few has (Reads.misread (Misreads.read_fault rose within is)) = inr is
+    faulty_alone e few has (Reads.misread (Misreads.too_long long is)) = absurd (not_within long few)
+    faulty_alone e few has (Reads.misread (Misreads.faulty whole f read other is)) =
+        let here : HasProtocol bytes (Err f) = subst (λ text. HasProtocol text (Err f)) (input_told whole read) other in
+        let same : f ≡ e = same_fault f e (one bytes (Err f) (Err e) here has) in inl (is ∙ ap (λ x. refused (input_refusal x)) same)
+    faulty_alone e few has (Reads.read p s is) =
+        let here : IsText bytes p = subst (λ text. IsText text p) (input_told s.bytes s.read) s.text in
+        absurd (fault_or_protocol e p (one bytes (Err e) (Ok p) has here))
+
+    pub spelled_alone : (p : Protocol) → length bytes ≤ INPUT_LIMIT → IsText bytes p → Reads input Answers a → Answers p a ⊎ (a ≡ refused ReadFault)
+    spelled_alone p few has (Reads.misread (Misreads.read_fault rose within is)) = inr is
+    spelled_alone p few has (Reads.misread (Misreads.too_long long is)) = absurd (not_within long few)
+    spelled_alone p few has (Reads.misread (Misreads.faulty whole f read other is)) =
+        let here : HasProtocol bytes (Err f) = subst (λ text. HasProtocol text (Err f)) (input_told whole read) other in
+        absurd (fault_or_protocol f p (one bytes (Err f) (Ok p) here has))
+    spelled_alone p few has (Reads.read q s is) =
+        let here : IsText bytes q = subst (λ text. IsText text q) (input_told s.bytes s.read) s.text in
+        let same : q ≡ p = same_protocol q p (one bytes (Ok q) (Ok p) here has) in inl (subst (λ x. Answers x a) same is)
+
+    taken_alone : Tells input → IsTooLong input → Reads input Answers a → a ≡ refused TooLong
+    taken_alone tells long (Reads.misread (Misreads.read_fault rose w is)) =
+        let same : w.count ≡ long.count = one_count input w.count long.count tells w.took long.took in absurd (omega (arith, w.within, long.over))
+    taken_alone tells long (Reads.misread (Misreads.too_long l is)) = is
+    taken_alone tells long (Reads.misread (Misreads.faulty whole e read has is)) = absurd (not_within long (fits whole read))
+    taken_alone tells long (Reads.read p s is) = absurd (not_within long (fits s.bytes s.read))
+
+    pub input_chooses : InputChooses input bytes Answers a
+    input_chooses = record { too_long = too_long_alone; faulty = faulty_alone; spelled = spelled_alone; taken = taken_alone }
+
+-- ---- protocols
+
+-- what has a report is served
+pub not_unbuilt : (options : Options) (p : Protocol) (a : Answer) → Reports options p a → IsUnbuilt options p → ⊥
+not_unbuilt options p a r (inl large) = large r.small
+not_unbuilt options p a r (inr none) = none r.template r.named
+
+search_chooses : (options : Options) (p : Protocol) (a : Answer) → SearchChooses options p a
+search_chooses options p a = record { report = reported; unbuilt = refused_so }
+  where
+    reported : (t : Option Template) → IsSmall p → NamesBy options.breadth t → Searches options p a → Reports options p a
+    reported t small named (Searches.report r) = r
+    reported t small named (Searches.unbuilt (inl large) is) = absurd (large small)
+    reported t small named (Searches.unbuilt (inr none) is) = absurd (none t named)
+
+    refused_so : IsUnbuilt options p → Searches options p a → a ≡ refused Unbuilt
+    refused_so cause (Searches.report r) = absurd (not_unbuilt options p a r cause)
+    refused_so cause (Searches.unbuilt other is) = is
+
+pub rows_exclude : OneProtocol → RowsExcludeEachOther
+rows_exclude one = (
+  words_choose,
+  λ options input bytes a told. input_chooses input bytes told one (Searches options) a,
+  λ input bytes a told. input_chooses input bytes told one Prints a,
+  search_chooses,
+)

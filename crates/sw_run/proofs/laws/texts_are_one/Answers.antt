@@ -1,5 +1,0 @@
-use Rattle.sw_run.proofs.OneText.{texts_are_one}
-use Rattle.sw_run.proofs.laws.texts_are_one.Goals as goal
-
-pub returns : goal.returns
-returns c = texts_are_one
