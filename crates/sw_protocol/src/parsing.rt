@@ -1,7 +1,9 @@
 //! The reader of a protocol's words: its declarations, or the first word that stands in their way.
 ghost use Rattle.std.specs.Prelude.{IfOk};
 ghost use Rattle.sw_protocol.specs.Answers.{IsAnswer};
+ghost use Rattle.sw_protocol.specs.Steps.{Finishes};
 
+use crate::phases::{Move, Phase};
 use crate::tree::Declaration;
 use sqlite_items::Items;
 use std::alloc::{AllocError, Global};
@@ -16,9 +18,40 @@ pub enum Parsed {
     TooDeep(usize),
 }
 
+/// What was read where the words end.
+fn finish(
+    alloc: Global,
+    done: Items<Declaration>,
+    phase: Phase,
+    count: usize,
+) -> Result<Parsed, AllocError>
+    ensures { IfOk result (Finishes done phase count) }
+{
+    if let Phase::Begin = phase {
+        return Ok(Parsed::Whole(done));
+    }
+    match phase.end(alloc)? {
+        Move::Past => Ok(Parsed::TooDeep(count)),
+        _ => Ok(Parsed::Syntax(count)),
+    }
+}
+
 /// The declarations that all of the words of the text are.
 pub fn parse(alloc: Global, text: &[u8], words: &[Word]) -> Result<Parsed, AllocError>
     ensures { IfOk result (IsAnswer text.now words.now) }
 {
-    Err(AllocError)
+    let mut done = Items::new(alloc);
+    let mut phase = Phase::Begin;
+    for (i, word) in words.iter().enumerate() {
+        match phase.step(alloc, text, *word)? {
+            Move::Taken(next) => phase = next,
+            Move::Whole(declaration) => {
+                done.push(declaration)?;
+                phase = Phase::Begin;
+            }
+            Move::Past => return Ok(Parsed::TooDeep(i)),
+            Move::Refused => return Ok(Parsed::Syntax(i)),
+        }
+    }
+    finish(alloc, done, phase, words.len())
 }
