@@ -167,10 +167,13 @@ nests (Phase.Formula o s) = alone_of (machine.finish s)
 nests _ = 0
 
 -- the loads of a word that was read last and is no semicolon
+abbrev pub loads_by : Sign → Phase → Loads
+loads_by sign (Phase.Params n bs (Stage.Colon v)) = binding (length bs + 1)
+loads_by sign (Phase.Formula o s) = machine.loads_by sign s.last (machine.context (with_params (params_of o)) s.stack) (machine.left_path s.stack)
+loads_by sign _ = no_loads
+
 abbrev pub loads_in : Phase → Word → Loads
-loads_in (Phase.Params n bs (Stage.Colon v)) w = binding (length bs + 1)
-loads_in (Phase.Formula o s) w = machine.loads_in (with_params (params_of o)) s w
-loads_in _ w = no_loads
+loads_in p w = loads_by w.sign p
 
 -- what a word does: the declaration that it ends, what comes after it, and its loads
 pub record Next : Type 0 where
@@ -181,12 +184,12 @@ pub record Next : Type 0 where
 abbrev pub closed : ℕ → Declaration → Next
 closed n d = record { whole = Some d; phase = Phase.Begin; loads = opening n }
 
-abbrev pub gone : Word → Phase → Next
-gone w p = record { whole = None; phase = p; loads = loads_in p w }
+abbrev pub gone : Sign → Phase → Next
+gone sign p = record { whole = None; phase = p; loads = loads_by sign p }
 
 abbrev pub next_by : List ℕ → Phase → Word → Sign → Option Next
 next_by text p w Sign.Semicolon = option_map (closed (nests p)) (ended p)
-next_by text p w sign = option_map (gone w) (walk text p w sign)
+next_by text p w sign = option_map (gone sign) (walk text p w sign)
 
 -- what a word does, if a declaration can go on with it
 abbrev pub next : List ℕ → Phase → Word → Option Next

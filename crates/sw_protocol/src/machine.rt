@@ -322,23 +322,30 @@ impl Phase {
         ensures { IfOk result (Walks (walk text.now self word word.sign) (nests self)) }
     {
         let sign = word.sign;
-        let next = match self {
-            Phase::Begin => begin(alloc, sign),
-            Phase::Change(mutable) => changed(mutable, sign),
-            Phase::Name(naming) => in_name(text, naming, word),
-            Phase::Relation(mutable, name) => after_relation(alloc, mutable, name, sign),
-            Phase::Function(name) => after_function(alloc, name, sign),
-            Phase::Transition(name) => after_transition(alloc, name, sign),
-            Phase::Params(name, params, stage) => in_params(text, name, params, stage, word)?,
-            Phase::Heading(name, params) => after_params(alloc, name, params, sign),
-            Phase::List(listing, names) => in_list(listing, names, word)?,
-            Phase::Listed(listing, names) => after_item(alloc, listing, names, sign),
-            Phase::Colon(typing) => after_typing(typing, sign),
-            Phase::Sort(typing) => in_sort(typing, word),
-            Phase::Formula(owner, state) => return in_formula(alloc, owner, state, word),
-            Phase::End(_) => None,
-        };
-        Ok(heading_walk(next))
+        match self {
+            Phase::Begin => Ok(heading_walk(begin(alloc, sign))),
+            Phase::Change(mutable) => Ok(heading_walk(changed(mutable, sign))),
+            Phase::Name(naming) => Ok(heading_walk(in_name(text, naming, word))),
+            Phase::Relation(mutable, name) => {
+                Ok(heading_walk(after_relation(alloc, mutable, name, sign)))
+            }
+            Phase::Function(name) => Ok(heading_walk(after_function(alloc, name, sign))),
+            Phase::Transition(name) => Ok(heading_walk(after_transition(alloc, name, sign))),
+            Phase::Params(name, params, stage) => {
+                Ok(heading_walk(in_params(text, name, params, stage, word)?))
+            }
+            Phase::Heading(name, params) => {
+                Ok(heading_walk(after_params(alloc, name, params, sign)))
+            }
+            Phase::List(listing, names) => Ok(heading_walk(in_list(listing, names, word)?)),
+            Phase::Listed(listing, names) => {
+                Ok(heading_walk(after_item(alloc, listing, names, sign)))
+            }
+            Phase::Colon(typing) => Ok(heading_walk(after_typing(typing, sign))),
+            Phase::Sort(typing) => Ok(heading_walk(in_sort(typing, word))),
+            Phase::Formula(owner, state) => in_formula(alloc, owner, state, word),
+            Phase::End(_) => Ok(Walk::Refused(None)),
+        }
     }
 
     /// What a semicolon does here.

@@ -1,0 +1,4 @@
+pub mod Reading
+pub mod Complete
+pub mod Extend
+pub mod Sound
