@@ -2,3 +2,5 @@ pub mod Reading
 pub mod Complete
 pub mod Extend
 pub mod Sound
+pub mod Viable
+pub mod Answering

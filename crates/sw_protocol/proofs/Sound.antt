@@ -401,5 +401,9 @@ module _ (text : List ℕ) (all : List Mark) where
       subst (AreDeclarations text all) same (done_all h.done (subst (λ (ms : List Mark). AreDeclarations text ms []) (sym h.so_far) AreDeclarations.none))
   held_spelled _ ds es h e = cc
 
+  -- all of the marks so far
+  pub all_held : (t : State) → Reads text start all t [] → Held text all t []
+  all_held t r = reads_held r (record { from = all; done = Done.nothing; so_far = refl })
+
   pub declarations_sound : (t : State) (es : List Declaration) → Reads text start all t [] → finish t ≡ Some es → AreDeclarations text all es
-  declarations_sound t es r e = held_spelled t.phase t.done es (reads_held r (record { from = all; done = Done.nothing; so_far = refl })) e
+  declarations_sound t es r e = held_spelled t.phase t.done es (all_held t r) e
