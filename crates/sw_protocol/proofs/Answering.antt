@@ -1,5 +1,5 @@
 -- What the machine's state says of the words that it has read.
-use Rattle.std.proofs.Common.{◌≡◌, inl, inr, ℕ, ◌+◌, ◌<◌, ◌≤◌, Bool, List, [], ◌∷◌, ◌++◌, length, take, drop, get_or, Option, Some, None, refl, sym, ap, subst, arith, ◌∙◌}
+use Rattle.std.proofs.Common.{◌≡◌, ◌⊎◌, inl, inr, ℕ, ◌+◌, ◌<◌, ◌≤◌, Bool, List, [], ◌∷◌, ◌++◌, length, take, drop, get_or, Option, Some, None, refl, sym, ap, subst, arith, ◌∙◌}
 use Rattle.std.specs.Prelude.{option_and_then, option_map}
 use Rattle.std.specs.List.{AllByRecursion}
 use Rattle.std.proofs.lemmas.List.{take_more, map-append, append-nil, append_assoc, take-map, take-append-drop}
@@ -91,7 +91,7 @@ module _ (text : List ℕ) (ws : List Word) where
   pub none_read : HasRead text ws 0 start
   none_read = record { marks = []; begins = record { within = omega arith; are = refl; allowed = tt }; reads = Reads.here }
 
-  words_more : (n : ℕ) (d w : Word) (ms : List Mark) (m : Mark) → n < length ws → w ≡ get_or ws n d → m.word ≡ w → words_in ms ≡ take n ws → words_in (ms ++ m ∷ []) ≡ take (n + 1) ws
+  pub words_more : (n : ℕ) (d w : Word) (ms : List Mark) (m : Mark) → n < length ws → w ≡ get_or ws n d → m.word ≡ w → words_in ms ≡ take n ws → words_in (ms ++ m ∷ []) ≡ take (n + 1) ws
   words_more n d w ms m h e k are =
       map-append (λ (o : Mark). o.word) ms (m ∷ [])
       ∙ ap (λ (vs : List Word). vs ++ m.word ∷ []) are
@@ -184,21 +184,20 @@ module _ (text : List ℕ) (ws : List Word) where
           let loads = semicolon_loads text u.phase k.last.word x k.ends e in
           k.past (subst IsWithin (sym loads ∙ l) (record { nestings = omega (arith, same, least); path = omega arith; variables = omega arith }))
 
-  pub too_nested : (n : ℕ) (s : State) (d : Declaration) → HasRead text ws n s → StopsAt text ws n → ended s.phase ≡ Some d → NESTINGS < nests s.phase → IsTooNested text ws n
-  too_nested n s d h stops e deep =
+  -- a semicolon would go past the nestings
+  pub ends_past : (s : State) (d : Declaration) (ms : List Mark) → Reads text start ms s [] → ended s.phase ≡ Some d → NESTINGS < nests s.phase → EndsPast text ms
+  ends_past s d ms r e deep =
       let x : Next = closed (nests s.phase) d in
       let m : Mark = record { word = made Sign.Semicolon; loads = x.loads } in
       record {
-        marks = h.marks;
-        begins = h.begins;
-        stops = stops;
-        ends = record {
-          last = m;
-          ends = refl;
-          goes_on = goes_on (h.marks ++ m ∷ []) (after s x) (reads_more (made Sign.Semicolon) s x h.marks h.reads (ap (option_map (closed (nests s.phase))) e));
-          past = λ w. let least = w.nestings in omega (arith, least, deep);
-        };
+        last = m;
+        ends = refl;
+        goes_on = goes_on (ms ++ m ∷ []) (after s x) (reads_more (made Sign.Semicolon) s x ms r (ap (option_map (closed (nests s.phase))) e));
+        past = λ w. let least = w.nestings in omega (arith, least, deep);
       }
+
+  pub too_nested : (n : ℕ) (s : State) (d : Declaration) → HasRead text ws n s → StopsAt text ws n → ended s.phase ≡ Some d → NESTINGS < nests s.phase → IsTooNested text ws n
+  too_nested n s d h stops e deep = record { marks = h.marks; begins = h.begins; stops = stops; ends = ends_past s d h.marks h.reads e deep }
 
   pub is_syntax : (n : ℕ) (s : State) → HasRead text ws n s → StopsAt text ws n → nests s.phase ≤ NESTINGS → ((ms : List Mark) (ds : List Declaration) → words_in ms ≡ ws → AreDeclarations text ms ds → ⊥) → IsSyntax text ws n
   is_syntax n s h stops least none = record { marks = h.marks; begins = h.begins; goes_on = goes_on h.marks s h.reads; stops = stops; none = none; shallow = shallow n s h least }
@@ -213,6 +212,10 @@ module _ (text : List ℕ) (ws : List Word) where
   refused_deep n d s h none deep =
       let e = deep_ends s.phase deep in
       inr (too_nested n s e.0 h (stopped n s h (λ i. (d, none))) e.1 deep)
+
+  pub answers_past : (n : ℕ) (d w : Word) (s : State) → n < length ws → w ≡ get_or ws n d → HasRead text ws n s → ((x : Next) × (next text s.phase w ≡ Some x) × (IsWithin x.loads → ⊥)) ⊎ ((next text s.phase w ≡ None) × (NESTINGS < nests s.phase)) → IsAnswer text ws (Parsed.TooDeep n)
+  answers_past n d w s inside e h (inl k) = inl (past_limit n d w s k.0 inside e h k.1 k.2)
+  answers_past n d w s inside e h (inr k) = refused_deep n d s h (ap (next text s.phase) (sym e) ∙ k.0) k.1
 
   -- the answer where the words end
   pub answered : (ds : List Declaration) (p : Phase) (n : ℕ) (r : Parsed) → n ≡ length ws → HasRead text ws n (at ds p) → Finishes ds p (length ws) r → IsAnswer text ws r

@@ -4,3 +4,5 @@ pub mod Extend
 pub mod Sound
 pub mod Viable
 pub mod Answering
+pub mod Stepping
+pub mod OneParse

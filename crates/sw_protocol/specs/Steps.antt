@@ -30,6 +30,11 @@ Answers next n (Move.Whole d) = (l : Loads) × (next ≡ Some (record { whole = 
 Answers next n Move.Past = ((x : Next) × (next ≡ Some x) × (IsWithin x.loads → ⊥)) ⊎ ((next ≡ None) × (NESTINGS < n))
 Answers next n Move.Refused = (next ≡ None) × (n ≤ NESTINGS)
 
+-- what is answered where the words end within a declaration, by what a semicolon would do there
+abbrev pub unfinished : Move → ℕ → Parsed
+unfinished Move.Past count = Parsed.TooDeep count
+unfinished _ count = Parsed.Syntax count
+
 -- what is answered where the words end
 abbrev pub Finishes : List Declaration → Phase → ℕ → Parsed → Type 0
 Finishes ds p count (Parsed.Whole es) = finish_by p ds ≡ Some es

@@ -1,6 +1,7 @@
 //! Protocols as text: which words spell one, what their names stand for, and canonical text.
 #![tactic(auto)]
 
+pub mod laws;
 pub mod machine;
 pub mod parsing;
 #[cfg(test)]

@@ -1,7 +1,7 @@
 //! The reader of a protocol's words: its declarations, or the first word that stands in their way.
-ghost use Rattle.std.specs.Prelude.{IfOk};
+ghost use Rattle.std.specs.Prelude.{◌≡◌, IfOk};
 ghost use Rattle.sw_protocol.specs.Answers.{IsAnswer};
-ghost use Rattle.sw_protocol.specs.Steps.{Finishes};
+ghost use Rattle.sw_protocol.specs.Steps.{unfinished, Finishes};
 
 use crate::phases::{Move, Phase};
 use crate::tree::Declaration;
@@ -18,6 +18,16 @@ pub enum Parsed {
     TooDeep(usize),
 }
 
+/// What was read where the words end within a declaration, by what a semicolon would do there.
+fn unfinished(end: Move, count: usize) -> Parsed
+    ensures { result ≡ unfinished end count }
+{
+    match end {
+        Move::Past => Parsed::TooDeep(count),
+        _ => Parsed::Syntax(count),
+    }
+}
+
 /// What was read where the words end.
 fn finish(
     alloc: Global,
@@ -30,10 +40,8 @@ fn finish(
     if let Phase::Begin = phase {
         return Ok(Parsed::Whole(done));
     }
-    match phase.end(alloc)? {
-        Move::Past => Ok(Parsed::TooDeep(count)),
-        _ => Ok(Parsed::Syntax(count)),
-    }
+    let end = phase.end(alloc)?;
+    Ok(unfinished(end, count))
 }
 
 /// The declarations that all of the words of the text are.

@@ -1,8 +1,5 @@
-use Rattle.std.proofs.Common.{rules, IfOk, ◌≡◌, ℕ, ◌+◌, ◌-◌, ◌*◌, ◌<◌, ◌≤◌, length, ◌/◌, ◌%◌, Bool, true, false, nat_eq, nat_lt, List, [], ◌∷◌, ◌++◌, slice_index_or, slice_set, bit_and, bit_or, Fits, w8, w32, w64, Bor, MutBor}
-use Rattle.sw_protocol.specs.Answers.{IsAnswer}
-use Rattle.sw_protocol.specs.Steps.{Finishes}
+use Rattle.sw_protocol.proofs.Stepping.{finishes}
 use Rattle.sw_protocol.proofs.parsing.finish.Goals as goal
 
--- src/parsing.rt:22:1
 pub returns : goal.returns
-returns c = ?
+returns c = rw c.unfinished.ensures (finishes c.args.done c.args.phase c.args.count c.in_default.not-Begin c.in_ok-end.end c.in_ok-end.ensures)

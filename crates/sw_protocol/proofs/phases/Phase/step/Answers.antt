@@ -1,22 +1,23 @@
-use Rattle.std.proofs.Common.{rules, ◌≡◌, ◌↔◌, ◌<◌, IfOk, IsTrue, ℕ, ◌+◌, ◌-◌, ◌*◌, ◌≤◌, length, ◌/◌, ◌%◌, Bool, true, false, nat_eq, nat_lt, List, [], ◌∷◌, ◌++◌, slice_index_or, slice_set, bit_and, bit_or, Fits, w8, w32, w64, Bor, MutBor}
-use Rattle.sw_text.specs.declared.limits.TheConstants.{NESTINGS}
-use Rattle.sw_text.specs.Machine.{finish}
-use Rattle.sw_text.specs.Measures.{nestings_of}
-use Rattle.sw_text.specs.Limits.{IsWithin, IsCount}
-use Rattle.sw_text.specs.Names.{bytes_at}
-use Rattle.sw_protocol.specs.Grammar.{is_hidden, with_params}
-use Rattle.sw_protocol.specs.Machine.{formula_of, begin, changed, named, in_name, after_relation, after_function, after_transition, in_params, after_params, in_list, after_item, after_typing, typed, in_sort, in_formula, params_of, owned, walk, ended, alone_of, nests, loads_in, next}
-use Rattle.sw_protocol.specs.Steps.{Walks, EndsBy, Answers}
+use Rattle.std.proofs.Common.{inl}
+use Rattle.sw_text.proofs.Answering.{if_ok}
+use Rattle.sw_protocol.specs.Machine.{loads_in, nests, next, gone}
+use Rattle.sw_protocol.specs.Steps.{Answers}
+use Rattle.sw_protocol.proofs.Stepping.{semicolon_answers, taken}
 use Rattle.sw_protocol.proofs.phases.Phase.step.Goals as goal
 
--- src/machine.rt:380:13
 pub returns-in-Semicolon : goal.returns-in-Semicolon
-returns-in-Semicolon c = ?
+returns-in-Semicolon c =
+    if_ok _ (Answers (next c.args.text.now c.args.self c.args.word) (nests c.args.self)) c.end.result c.end.ensures
+    (λ r h. semicolon_answers c.args.text.now c.args.self c.args.word c.in-Semicolon.is r h)
 
--- src/machine.rt:378:5
 pub returns-then-is_within : goal.returns-then-is_within
-returns-then-is_within c = ?
+returns-then-is_within c =
+    let walks = rw c.in-Taken.is at c.in_ok-phase.ensures in
+    (loads_in c.in-Taken.phase c.args.word, taken c.args.text.now c.args.self c.in-Taken.phase c.args.word c.in_default.not-Semicolon walks, c.is_within.ensures.0 c.if-is_within.true)
 
--- src/machine.rt:378:5
 pub returns-in-Taken : goal.returns-in-Taken
-returns-in-Taken c = ?
+returns-in-Taken c =
+    let walks = rw c.in-Taken.is at c.in_ok-phase.ensures in
+    inl
+    (gone c.args.word.sign c.in-Taken.phase, taken c.args.text.now c.args.self c.in-Taken.phase c.args.word c.in_default.not-Semicolon walks,
+    λ w. let yes = c.is_within.ensures.1 w in let no = c.if-is_within.false in cc)
