@@ -13,6 +13,7 @@ use Rattle.sw_protocol.specs.declared.tree.Declaration.{Declaration}
 use Rattle.sw_protocol.specs.declared.phases.Owner.{Owner}
 use Rattle.sw_protocol.specs.declared.phases.Phase.{Phase}
 use Rattle.sw_protocol.specs.declared.phases.Move.{Move}
+use Rattle.sw_protocol.specs.declared.parsing.Parsed.{Parsed}
 use Rattle.sw_protocol.specs.Machine.{owned, walk, ended, nests, alone_of, closed, gone, loads_in, next_by, next, finish_by}
 use Rattle.sw_protocol.specs.Steps.{EndsBy, Answers, unfinished, Finishes}
 
@@ -39,17 +40,18 @@ walks text p w sign h = refl
 pub taken : (text : List ℕ) (p q : Phase) (w : Word) → (w.sign ≡ Sign.Semicolon → ⊥) → walk text p w w.sign ≡ Some q → next text p w ≡ Some (gone w.sign q)
 taken text p q w h e = walks text p w w.sign h ∙ ap (option_map (gone w.sign)) e
 
+pub unfinished_other : (r : Move) (count : ℕ) → (r ≡ Move.Past → ⊥) → unfinished r count ≡ Parsed.Syntax count
+unfinished_other Move.Past count h = absurd (h refl)
+unfinished_other _ count h = refl
+
+-- nothing is whole within a declaration
+within : (ds : List Declaration) (p : Phase) → (p ≡ Phase.Begin → ⊥) → finish_by p ds ≡ None
+within ds Phase.Begin h = absurd (h refl)
+within ds _ h = refl
+
 -- the words end within a declaration
 pub finishes : (ds : List Declaration) (p : Phase) (count : ℕ) → (p ≡ Phase.Begin → ⊥) → (r : Move) → EndsBy (ended p) (nests p) r → Finishes ds p count (unfinished r count)
 finishes ds p count h (Move.Taken q) k = absurd k
-finishes ds p count h (Move.Whole d) k = (refl, within p h, k.1)
-  where
-    within : (p : Phase) → (p ≡ Phase.Begin → ⊥) → finish_by p ds ≡ None
-    within Phase.Begin h = absurd (h refl)
-    within _ h = refl
+finishes ds p count h (Move.Whole d) k = (refl, within ds p h, k.1)
 finishes ds p count h Move.Past k = (refl, k.0, k.1)
-finishes ds p count h Move.Refused k = (refl, within p h, k.1)
-  where
-    within : (p : Phase) → (p ≡ Phase.Begin → ⊥) → finish_by p ds ≡ None
-    within Phase.Begin h = absurd (h refl)
-    within _ h = refl
+finishes ds p count h Move.Refused k = (refl, within ds p h, k.1)
