@@ -3,7 +3,12 @@
 
 pub mod declaring;
 pub mod draft;
+pub mod laws;
+pub mod machine;
 pub mod parsing;
+#[cfg(test)]
+mod parsing_tests;
+pub mod phases;
 pub mod printing;
 pub mod texts;
 pub mod tree;
