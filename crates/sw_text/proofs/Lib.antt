@@ -12,3 +12,4 @@ pub mod SortedTerms
 pub mod WellSorted
 pub mod OneFormula
 pub mod Joined
+pub mod Spacing
