@@ -13,3 +13,5 @@ pub mod WellSorted
 pub mod OneFormula
 pub mod Joined
 pub mod Spacing
+pub mod Tidy
+pub mod SpeltTerms
