@@ -15,3 +15,4 @@ pub mod Joined
 pub mod Spacing
 pub mod Tidy
 pub mod SpeltTerms
+pub mod Measured
