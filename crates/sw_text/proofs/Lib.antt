@@ -16,3 +16,4 @@ pub mod Spacing
 pub mod Tidy
 pub mod SpeltTerms
 pub mod Measured
+pub mod SpeltForms
