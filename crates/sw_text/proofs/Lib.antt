@@ -17,3 +17,4 @@ pub mod Tidy
 pub mod SpeltTerms
 pub mod Measured
 pub mod SpeltForms
+pub mod SameMeaning

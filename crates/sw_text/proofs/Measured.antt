@@ -73,7 +73,7 @@ count_Iff p q = search (rules, trees.the_lemmas)
 count_Quantified : (u : Bool) (bs : List Binder) (p : Tree) → nestings_of (tree.Quantified u bs p) ≡ bracketed ((nestings_of p).alone + 1)
 count_Quantified u bs p = search (rules, trees.the_lemmas)
 
-two : {X Y Z : Type 0} (f : X → Y → Z) (x x' : X) (y y' : Y) → x ≡ x' → y ≡ y' → f x y ≡ f x' y'
+pub two : {X Y Z : Type 0} (f : X → Y → Z) (x x' : X) (y y' : Y) → x ≡ x' → y ≡ y' → f x y ≡ f x' y'
 two f x x' y y' d e = ap (λ z. f z y) d ∙ ap (f x') e
 
 abbrev nests : Nestings → Nestings → Nestings
