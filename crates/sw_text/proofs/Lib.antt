@@ -18,3 +18,4 @@ pub mod SpeltTerms
 pub mod Measured
 pub mod SpeltForms
 pub mod SameMeaning
+pub mod Tidied
