@@ -19,3 +19,4 @@ pub mod Measured
 pub mod SpeltForms
 pub mod SameMeaning
 pub mod Tidied
+pub mod ShownAs

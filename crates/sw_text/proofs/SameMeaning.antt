@@ -55,16 +55,16 @@ module _ (a : Around) (T : List ℕ) where
       subst (λ name. broken u.token.at (head_tests a scope (head_named scope name) primed m wanted) ≡ []) e counted
 
   module _ (scope : Scope) where
-    named_faults : (d : Around) (w : Word) (primed : Bool) (wanted : Wanted) → term_faults d scope (term.Named w primed) wanted ≡ head_faults d scope w primed 0 wanted
+    pub named_faults : (d : Around) (w : Word) (primed : Bool) (wanted : Wanted) → term_faults d scope (term.Named w primed) wanted ≡ head_faults d scope w primed 0 wanted
     named_faults d w primed wanted = search (rules, term_trees.the_lemmas)
 
-    named_read : (d : Around) (w : Word) (primed : Bool) → term_read d scope (term.Named w primed) ≡ term_by (head_of d scope w) primed []
+    pub named_read : (d : Around) (w : Word) (primed : Bool) → term_read d scope (term.Named w primed) ≡ term_by (head_of d scope w) primed []
     named_read d w primed = search (rules, term_trees.the_lemmas)
 
-    named_atom : (d : Around) (w : Word) (primed : Bool) → atom_read d scope (term.Named w primed) ≡ atom_by (head_of d scope w) primed []
+    pub named_atom : (d : Around) (w : Word) (primed : Bool) → atom_read d scope (term.Named w primed) ≡ atom_by (head_of d scope w) primed []
     named_atom d w primed = search (rules, term_trees.the_lemmas)
 
-    applied_atom : (d : Around) (w : Word) (primed : Bool) (args : List TermTree) → atom_read d scope (term.Applied w primed args) ≡ atom_by (head_of d scope w) primed (map (term_read d scope) args)
+    pub applied_atom : (d : Around) (w : Word) (primed : Bool) (args : List TermTree) → atom_read d scope (term.Applied w primed args) ≡ atom_by (head_of d scope w) primed (map (term_read d scope) args)
     applied_atom d w primed args = search (rules, term_trees.the_lemmas)
 
     first_of_named : (w : Word) (primed : Bool) → first_word (term.Named w primed) ≡ w
@@ -158,34 +158,34 @@ module _ (a : Around) (T : List ℕ) where
   faults_Constant : (d : Around) (value : Bool) (scope : Scope) → faults d (tree.Constant value) scope ≡ []
   faults_Constant d value scope = search (rules, trees.the_lemmas)
 
-  faults_Not : (d : Around) (p : Tree) (scope : Scope) → faults d (tree.Not p) scope ≡ faults d p scope
+  pub faults_Not : (d : Around) (p : Tree) (scope : Scope) → faults d (tree.Not p) scope ≡ faults d p scope
   faults_Not d p scope = search (rules, trees.the_lemmas)
 
-  read_Not : (d : Around) (p : Tree) (scope : Scope) → formula_read d (tree.Not p) scope ≡ formula.Not (formula_read d p scope)
+  pub read_Not : (d : Around) (p : Tree) (scope : Scope) → formula_read d (tree.Not p) scope ≡ formula.Not (formula_read d p scope)
   read_Not d p scope = search (rules, trees.the_lemmas)
 
-  faults_All : (d : Around) (ps : List Tree) (scope : Scope) → faults d (tree.All ps) scope ≡ all_faults d ps scope
+  pub faults_All : (d : Around) (ps : List Tree) (scope : Scope) → faults d (tree.All ps) scope ≡ all_faults d ps scope
   faults_All d ps scope = search (rules, trees.the_lemmas)
 
-  read_All : (d : Around) (ps : List Tree) (scope : Scope) → formula_read d (tree.All ps) scope ≡ formula.All (all_read d ps scope)
+  pub read_All : (d : Around) (ps : List Tree) (scope : Scope) → formula_read d (tree.All ps) scope ≡ formula.All (all_read d ps scope)
   read_All d ps scope = search (rules, trees.the_lemmas)
 
-  faults_Any : (d : Around) (ps : List Tree) (scope : Scope) → faults d (tree.Any ps) scope ≡ all_faults d ps scope
+  pub faults_Any : (d : Around) (ps : List Tree) (scope : Scope) → faults d (tree.Any ps) scope ≡ all_faults d ps scope
   faults_Any d ps scope = search (rules, trees.the_lemmas)
 
-  read_Any : (d : Around) (ps : List Tree) (scope : Scope) → formula_read d (tree.Any ps) scope ≡ formula.Any (all_read d ps scope)
+  pub read_Any : (d : Around) (ps : List Tree) (scope : Scope) → formula_read d (tree.Any ps) scope ≡ formula.Any (all_read d ps scope)
   read_Any d ps scope = search (rules, trees.the_lemmas)
 
-  read_Implies : (d : Around) (p q : Tree) (scope : Scope) → formula_read d (tree.Implies p q) scope ≡ formula.Implies (formula_read d p scope) (formula_read d q scope)
+  pub read_Implies : (d : Around) (p q : Tree) (scope : Scope) → formula_read d (tree.Implies p q) scope ≡ formula.Implies (formula_read d p scope) (formula_read d q scope)
   read_Implies d p q scope = search (rules, trees.the_lemmas)
 
-  read_Iff : (d : Around) (p q : Tree) (scope : Scope) → formula_read d (tree.Iff p q) scope ≡ formula.Iff (formula_read d p scope) (formula_read d q scope)
+  pub read_Iff : (d : Around) (p q : Tree) (scope : Scope) → formula_read d (tree.Iff p q) scope ≡ formula.Iff (formula_read d p scope) (formula_read d q scope)
   read_Iff d p q scope = search (rules, trees.the_lemmas)
 
-  faults_Quantified : (d : Around) (universal : Bool) (bs : List Binder) (p : Tree) (scope : Scope) → faults d (tree.Quantified universal bs p) scope ≡ body_faults d bs p scope
+  pub faults_Quantified : (d : Around) (universal : Bool) (bs : List Binder) (p : Tree) (scope : Scope) → faults d (tree.Quantified universal bs p) scope ≡ body_faults d bs p scope
   faults_Quantified d universal bs p scope = search (rules, trees.the_lemmas)
 
-  read_Quantified : (d : Around) (universal : Bool) (bs : List Binder) (p : Tree) (scope : Scope) → formula_read d (tree.Quantified universal bs p) scope ≡ body_read d universal bs p scope
+  pub read_Quantified : (d : Around) (universal : Bool) (bs : List Binder) (p : Tree) (scope : Scope) → formula_read d (tree.Quantified universal bs p) scope ≡ body_read d universal bs p scope
   read_Quantified d universal bs p scope = search (rules, trees.the_lemmas)
 
   mutual
