@@ -20,3 +20,4 @@ pub mod SpeltForms
 pub mod SameMeaning
 pub mod Tidied
 pub mod ShownAs
+pub mod ReadsBack

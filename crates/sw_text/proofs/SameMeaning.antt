@@ -19,16 +19,13 @@ use Rattle.sw_text.specs.declared.names.Violation.{Violation}
 use Rattle.sw_text.specs.declared.names.Wanted.{Wanted}
 use Rattle.sw_text.specs.declared.names.Head.{Head}
 use Rattle.sw_text.specs.Names.{Around, Scope, head_of, head_by, head_tests, head_faults, head_sorts, head_gives, args_faults, term_faults, term_read, term_by, first_word, right_wanted, atom_by, atom_read, faults, formula_read, binder_faults, binders_faults, bound, bytes_at, sort_number, symbol_number, number_or_0, is_none, is_declared, is_some_number, variable_number, broken, quantified, next_wanted}
+use Rattle.sw_text.specs.ReadsBack.{with_text}
 use Rattle.sw_text.specs.Resolving.{equal_faults, all_faults, all_read, body_faults, body_read}
 use Rattle.sw_text.proofs.Breaking.{term_faults_of, term_read_of}
 use Rattle.sw_text.proofs.Folding.{faults_Atom, read_Atom, faults_Equal, read_Equal, faults_Implies, faults_Iff}
 use Rattle.sw_text.proofs.SortedTerms.{apart}
 use Rattle.sw_text.proofs.Tidy.{SameBytes, SameTerm, SameTerms, SameBinder, SameBinders, Same, SameRun}
 use Rattle.sw_text.proofs.Measured.{two}
-
--- the same names around another text
-abbrev pub with_text : Around → List ℕ → Around
-with_text a T = record { text = T; signature = a.signature; declared_too = a.declared_too; place = a.place }
 
 broken_anywhere : (at to : ℕ) (tests : List (Bool × Rule)) → broken at tests ≡ [] → broken to tests ≡ []
 broken_anywhere at to [] e = refl

@@ -422,15 +422,16 @@ quantified_way A i v universal b bs p more x n first others limit body T at post
           (goes_on T g.next d.next z.next (d.mark ∷ []) z.marks d.goes z.goes));
       spelled = λ rest.
           subst (λ ms. formula_in c (tree.Quantified universal cs z.tree) (q.mark ∷ ms) rest) (sym (append_assoc inner (d.mark ∷ z.marks) rest))
-          (let y = z.spelled rest in
-          (
+          (let y = z.spelled rest in (
             end_of y.1.0 y.0,
-            (false,
-            IsFormula.implied
-            (IsImplied.last_implied
-            (AreBoths.one_both
-            (AreSingles.one_single
-            (IsSingle.quantified universal q.mark d.mark q.is (g.extends (f.tree ∷ []) f.marks refl (λ r. AreBinders.one_binder (f.spelled r)) (d.mark ∷ (z.marks ++ rest))) d.is y.1.1))))),
+            (
+              false,
+              IsFormula.implied
+                  (IsImplied.last_implied
+                  (AreBoths.one_both
+                  (AreSingles.one_single
+                  (IsSingle.quantified universal q.mark d.mark q.is (g.extends (f.tree ∷ []) f.marks refl (λ r. AreBinders.one_binder (f.spelled r)) (d.mark ∷ (z.marks ++ rest))) d.is y.1.1)))),
+            ),
           ));
       same = Same.quantified universal (SameBinders.more_binders f.same g.same) z.same;
     }
@@ -453,10 +454,15 @@ mutual
         tree = tree.All (f.tree ∷ g.trees);
         later = g.later;
         goes = goes_on T at f.next g.next f.marks g.marks f.goes g.goes;
-        spelled = λ rest.
-            (End.Closed, (false, IsFormula.implied
-            (subst (λ x. IsImplied c End.Closed ((f.marks ++ g.marks) ++ rest) x rest) (all_is f.tree g.same)
-            (IsImplied.last_implied (AreBoths.one_both (g.extends (f.tree ∷ []) f.marks (λ r. AreSingles.one_single (f.spelled r)) rest))))));
+        spelled = λ rest. (
+          End.Closed,
+          (
+            false,
+            IsFormula.implied
+                (subst (λ x. IsImplied c End.Closed ((f.marks ++ g.marks) ++ rest) x rest) (all_is f.tree g.same)
+                (IsImplied.last_implied (AreBoths.one_both (g.extends (f.tree ∷ []) f.marks (λ r. AreSingles.one_single (f.spelled r)) rest)))),
+          ),
+        );
         same = Same.all (SameRun.one_more f.same g.same);
       })
   ways {A = A} {i = i} {v = v} (Tidy.any {p = p} {q = q} {ps = ps} {s = s} {more = more} {n = n} {k = k} h hs) =
@@ -470,10 +476,15 @@ mutual
         tree = tree.Any (f.tree ∷ g.trees);
         later = g.later;
         goes = goes_on T at f.next g.next f.marks g.marks f.goes g.goes;
-        spelled = λ rest.
-            (End.Closed, (false, IsFormula.implied
-            (subst (λ x. IsImplied c End.Closed ((f.marks ++ g.marks) ++ rest) x rest) (any_is f.tree g.same)
-            (IsImplied.last_implied (g.extends (f.tree ∷ []) f.marks (λ r. AreBoths.one_both (AreSingles.one_single (f.spelled r))) rest)))));
+        spelled = λ rest. (
+          End.Closed,
+          (
+            false,
+            IsFormula.implied
+                (subst (λ x. IsImplied c End.Closed ((f.marks ++ g.marks) ++ rest) x rest) (any_is f.tree g.same)
+                (IsImplied.last_implied (g.extends (f.tree ∷ []) f.marks (λ r. AreBoths.one_both (AreSingles.one_single (f.spelled r))) rest))),
+          ),
+        );
         same = Same.any (SameRun.one_more f.same g.same);
       })
   ways {A = A} {i = i} {v = v} (Tidy.implies {p = p} {q = q} {s = s} {t = t} {n = n} {m = m} h k) =
