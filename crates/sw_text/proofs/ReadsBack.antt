@@ -4,6 +4,7 @@ use Rattle.std.specs.List.{AllByRecursion}
 use Rattle.std.proofs.Common.{refl, sym, ap, subst, ◌∙◌, arith, append-nil, length-drop}
 use Rattle.std.proofs.lemmas.List.{take_all, map-append}
 use Rattle.std.proofs.lemmas.Simd.{map-map}
+use Rattle.sw_logic.specs.declared.syntax.Signature.{Signature}
 use Rattle.sw_logic.specs.declared.syntax.Formula.{Formula}
 use Rattle.sw_logic.specs.Canonical.{Shown, text_of, names_of, shown}
 use Rattle.sw_scan.specs.declared.Token.{Token}
@@ -28,7 +29,7 @@ use Rattle.sw_text.proofs.Measured.{same_nestings, tidy_nestings}
 use Rattle.sw_text.proofs.SpeltForms.{Spelt, Ways, IsAt, formula_in, ways}
 use Rattle.sw_text.proofs.SameMeaning.{formula_same, formula_fine}
 use Rattle.sw_text.proofs.Tidied.{AllGood, HasTidy, formula_tidy, scanned_good, marks_good}
-use Rattle.sw_text.proofs.ShownAs.{shown_is}
+use Rattle.sw_text.proofs.ShownAs.{Extends, extends_itself, shown_is}
 use Rattle.sw_text.proofs.SortedTerms.{number_is_itself}
 use Rattle.sw_text.proofs.OneFormula.{has_outcome}
 
@@ -45,12 +46,12 @@ pub record Stands (a : Around) (scope : Scope) (f : Formula) (n : Nestings) (c :
   pub is : formula_read (with_text a T) tree scope ≡ f
   pub nestings : nestings_of tree ≡ n
 
--- a tidy formula stands wherever its canonical text does
-pub tidy_stands : (a : Around) (scope : Scope) (i v : ℕ) (x : Tree) → HasTidy a.text i v x → faults a x scope ≡ [] → (T : List ℕ) (at : ℕ) (post : List ℕ) (c : Context) → IsAt c i v → c.nestings + (nestings_of x).alone ≤ NESTINGS
-    → Here T at (text_of a.signature (names_of scope) (formula_read a x scope) ++ post) → breaks post ≡ true → Stands a scope (formula_read a x scope) (nestings_of x) c T at post
-tidy_stands a scope i v x h e T at post c k w here b =
+-- a tidy formula stands wherever its canonical text does, by a signature that has all that it was read by
+pub tidy_stands : (a : Around) (sig : Signature) → Extends a.signature sig → (scope : Scope) (i v : ℕ) (x : Tree) → HasTidy a.text i v x → faults a x scope ≡ [] → (T : List ℕ) (at : ℕ) (post : List ℕ) (c : Context) → IsAt c i v → c.nestings + (nestings_of x).alone ≤ NESTINGS
+    → Here T at (text_of sig (names_of scope) (formula_read a x scope) ++ post) → breaks post ≡ true → Stands a scope (formula_read a x scope) (nestings_of x) c T at post
+tidy_stands a sig later scope i v x h e T at post c k w here b =
     let tidy = h.1.1 in
-    let text : text_of a.signature (names_of scope) (formula_read a x scope) ≡ h.0.text = ap (λ (s : Shown). s.text) (shown_is a tidy scope e) in
+    let text : text_of sig (names_of scope) (formula_read a x scope) ≡ h.0.text = ap (λ (s : Shown). s.text) (shown_is a sig later tidy scope e) in
     let count : (nestings_of x).alone ≡ h.1.0.alone = ap (λ (n : Nestings). n.alone) (tidy_nestings tidy) in
     let q = (ways tidy).alone T at post c k (omega (arith, count, w)) (subst (λ y. Here T at (y ++ post)) text here) b in
     record {
@@ -66,11 +67,11 @@ tidy_stands a scope i v x h e T at post c k w here b =
     }
 
 -- so does one that was spelled within the limits
-pub spelled_stands : (a : Around) (scope : Scope) (base : Context) (e : End) (i : Bool) (ms rest : List Mark) (x : Tree) → IsFormula base e i ms x rest → AllGood a.text ms → faults a x scope ≡ []
+pub spelled_stands : (a : Around) (sig : Signature) → Extends a.signature sig → (scope : Scope) (base : Context) (e : End) (i : Bool) (ms rest : List Mark) (x : Tree) → IsFormula base e i ms x rest → AllGood a.text ms → faults a x scope ≡ []
     → (T : List ℕ) (at : ℕ) (post : List ℕ) (c : Context) → IsAt c base.iffs base.variables → c.nestings + (nestings_of x).alone ≤ NESTINGS
-    → Here T at (text_of a.signature (names_of scope) (formula_read a x scope) ++ post) → breaks post ≡ true → Stands a scope (formula_read a x scope) (nestings_of x) c T at post
-spelled_stands a scope base e i ms rest x h good fine T at post c k w here b =
-    tidy_stands a scope base.iffs base.variables x (formula_tidy a.text h good).0 fine T at post c k w here b
+    → Here T at (text_of sig (names_of scope) (formula_read a x scope) ++ post) → breaks post ≡ true → Stands a scope (formula_read a x scope) (nestings_of x) c T at post
+spelled_stands a sig later scope base e i ms rest x h good fine T at post c k w here b =
+    tidy_stands a sig later scope base.iffs base.variables x (formula_tidy a.text h good).0 fine T at post c k w here b
 
 words_are : (T : List ℕ) (ms : List Mark) → AllByRecursion (λ (m : Mark). m.word ≡ word_of T m.word.token) ms → words_in ms ≡ map (word_of T) (map token_of ms)
 words_are T [] h = refl
@@ -146,6 +147,6 @@ reads_back a scope f h =
     let r = was_read a scope f h in
     let T : List ℕ = text_of a.signature (names_of scope) f in
     let text : text_of a.signature (names_of scope) (formula_read a r.tree scope) ≡ T = ap (text_of a.signature (names_of scope)) r.is in
-    let s = spelled_stands a scope (base_in scope) r.end r.iff r.marks [] r.tree r.spelled r.good r.fine T 0 [] (base_in scope) (record { iffs = refl; variables = refl }) (omega (arith, r.nestings))
+    let s = spelled_stands a a.signature (extends_itself a.signature) scope (base_in scope) r.end r.iff r.marks [] r.tree r.spelled r.good r.fine T 0 [] (base_in scope) (record { iffs = refl; variables = refl }) (omega (arith, r.nestings))
     (record { fits = omega arith; is = sym (append-nil (text_of a.signature (names_of scope) (formula_read a r.tree scope)) ∙ text) }) refl in
     stands_alone a scope f (nestings_of r.tree) T (subst (λ (g : Formula). Stands a scope g (nestings_of r.tree) (base_in scope) T 0 []) r.is s) r.nestings

@@ -101,24 +101,34 @@ step_of T x post at k sign loads h first s w =
       spelled = bytes;
     }
 
-blank_at : (T post : List ℕ) (at : ℕ) → at ≤ length T → drop at T ≡ 32 ∷ post → (slice_index T at ≡ 32) × (at < length T)
-blank_at [] post zero h e = cc
-blank_at [] post (suc at) h e = absurd (omega arith)
-blank_at (c ∷ T) post zero h e = (cc, omega arith)
-blank_at (c ∷ T) post (suc at) h e = let p = blank_at T post at (omega arith) e in (p.0, omega (arith, p.1))
+byte_at : (T post : List ℕ) (at b : ℕ) → at ≤ length T → drop at T ≡ b ∷ post → (slice_index T at ≡ b) × (at < length T)
+byte_at [] post zero b h e = cc
+byte_at [] post (suc at) b h e = absurd (omega arith)
+byte_at (c ∷ T) post zero b h e = (cc, omega arith)
+byte_at (c ∷ T) post (suc at) b h e = let p = byte_at T post at b (omega arith) e in (p.0, omega (arith, p.1))
 
--- a space is no mark
-pub goes_blank : (T post : List ℕ) (at : ℕ) → Here T at (32 ∷ post) → Goes T at (at + 1) []
-goes_blank T post at h =
-    let p = blank_at T post at h.fits h.is in
+goes_over : (T post : List ℕ) (at b : ℕ) → is_blank b ≡ true → Here T at (b ∷ post) → Goes T at (at + 1) []
+goes_over T post at b is h =
+    let p = byte_at T post at b h.fits h.is in
     record {
-      scans = λ r scans. subst (Scans T at) (sym (before_nil r)) (Scans.blank p.1 (subst (λ b. IsTrue (is_blank b)) (sym p.0) refl) scans);
+      scans = λ r scans. subst (Scans T at) (sym (before_nil r)) (Scans.blank p.1 (subst (λ c. IsTrue (is_blank c)) (sym p.0) is) scans);
       words = tt;
       within = tt;
     }
 
+-- a space is no mark
+pub goes_blank : (T post : List ℕ) (at : ℕ) → Here T at (32 ∷ post) → Goes T at (at + 1) []
+goes_blank T post at h = goes_over T post at 32 refl h
+
 pub blank_later : (T post : List ℕ) (at : ℕ) → Here T at (32 ∷ post) → Here T (at + 1) post
 blank_later T post at h = here_next T (32 ∷ []) post at h
+
+-- nor is a line feed
+pub goes_line : (T post : List ℕ) (at : ℕ) → Here T at (10 ∷ post) → Goes T at (at + 1) []
+goes_line T post at h = goes_over T post at 10 refl h
+
+pub line_later : (T post : List ℕ) (at : ℕ) → Here T at (10 ∷ post) → Here T (at + 1) post
+line_later T post at h = here_next T (10 ∷ []) post at h
 
 prefix_all : (p : ℕ → Bool) (bs post : List ℕ) → list_all p bs ≡ true → prefix_len p post ≡ 0 → prefix_len p (bs ++ post) ≡ length bs
 prefix_all p [] post h e = e
@@ -158,6 +168,9 @@ module _ (T post : List ℕ) (at : ℕ) (loads : Loads) where
 
   pub step_colon : Here T at (codes ":" ++ post) → IsWithin loads → Step T at Sign.Colon loads (codes ":") post
   step_colon h w = step_of T (codes ":") post at Kind.Colon Sign.Colon loads h (mark_by_kind 58 post Kind.Colon (λ e. cc) (λ e. cc) (no_long 58 post refl refl refl) refl) refl w
+
+  pub step_semicolon : Here T at (codes ";" ++ post) → IsWithin loads → Step T at Sign.Semicolon loads (codes ";") post
+  step_semicolon h w = step_of T (codes ";") post at Kind.Semicolon Sign.Semicolon loads h (mark_by_kind 59 post Kind.Semicolon (λ e. cc) (λ e. cc) (no_long 59 post refl refl refl) refl) refl w
 
   pub step_dot : Here T at (codes "." ++ post) → IsWithin loads → Step T at Sign.Dot loads (codes ".") post
   step_dot h w = step_of T (codes ".") post at Kind.Dot Sign.Dot loads h (mark_by_kind 46 post Kind.Dot (λ e. cc) (λ e. cc) (no_long 46 post refl refl refl) refl) refl w

@@ -251,7 +251,41 @@ all_is x (SameRun.one_more h k) = refl
 any_is : {A T : List ℕ} {q : Tree} {ps ys : List Tree} (x : Tree) → SameRun A T (q ∷ ps) ys → any_of (x ∷ ys) ≡ tree.Any (x ∷ ys)
 any_is x (SameRun.one_more h k) = refl
 
--- binders
+-- a variable, a colon and its sort, and what they count
+pub record BinderMarks (A T : List ℕ) (at : ℕ) (post : List ℕ) (v : ℕ) (b : Binder) : Type 0 where
+  pub next : ℕ
+  pub name : Mark
+  pub colon : Mark
+  pub sort : Mark
+  pub later : Here T next post
+  pub goes : Goes T at next (name ∷ colon ∷ sort ∷ [])
+  pub name_is : Is Sign.Name (binding (v + 1)) name
+  pub colon_is : Is Sign.Colon no_loads colon
+  pub sort_is : Is Sign.Name no_loads sort
+  pub same : SameBinder A T b (record { name = name.word; sort = sort.word })
+
+pub binder_marks : (A T : List ℕ) (at : ℕ) (post : List ℕ) (v : ℕ) (b : Binder) → TidyBinder A b → Here T at (binder_piece A b ++ post) → breaks post ≡ true → v + 1 ≤ VARIABLES → BinderMarks A T at post v b
+binder_marks A T at post v b tidy h e limit =
+    let h' : Here T at (bytes_at A b.name ++ (codes ":" ++ (32 ∷ (bytes_at A b.sort ++ post)))) = here_as T _ _ at (simp append_assoc) h in
+    let n = step_name T (bytes_at A b.name) (codes ":" ++ (32 ∷ (bytes_at A b.sort ++ post))) at Sign.Name (binding (v + 1)) h' tidy.name.name tidy.name.sign refl (within_binding (v + 1) limit) in
+    let c = step_colon T (32 ∷ (bytes_at A b.sort ++ post)) n.next no_loads n.later within_none in
+    let s = step_name T (bytes_at A b.sort) post (c.next + 1) Sign.Name no_loads (blank_later T _ c.next c.later) tidy.sort.name tidy.sort.sign e within_none in
+    record {
+      next = s.next;
+      name = n.mark;
+      colon = c.mark;
+      sort = s.mark;
+      later = s.later;
+      goes =
+          goes_on T at n.next s.next (n.mark ∷ []) (c.mark ∷ s.mark ∷ []) n.goes
+          (goes_on T n.next c.next s.next (c.mark ∷ []) (s.mark ∷ []) c.goes
+          (goes_on T c.next (c.next + 1) s.next [] (s.mark ∷ []) (goes_blank T _ c.next c.later) s.goes));
+      name_is = n.is;
+      colon_is = c.is;
+      sort_is = s.is;
+      same = record { name = sym n.spelled; sort = sym s.spelled };
+    }
+
 pub record BinderAt (A T : List ℕ) (at : ℕ) (post : List ℕ) (v : ℕ) (b : Binder) : Type 0 where
   pub next : ℕ
   pub marks : List Mark
@@ -263,23 +297,18 @@ pub record BinderAt (A T : List ℕ) (at : ℕ) (post : List ℕ) (v : ℕ) (b :
 
 binder_at : (A T : List ℕ) (at : ℕ) (post : List ℕ) (v : ℕ) (b : Binder) → TidyBinder A b → Here T at (binder_piece A b ++ post) → breaks post ≡ true → v + 1 ≤ VARIABLES → BinderAt A T at post v b
 binder_at A T at post v b tidy h e limit =
-    let h' : Here T at (bytes_at A b.name ++ (codes ":" ++ (32 ∷ (bytes_at A b.sort ++ post)))) = here_as T _ _ at (simp append_assoc) h in
-    let n = step_name T (bytes_at A b.name) (codes ":" ++ (32 ∷ (bytes_at A b.sort ++ post))) at Sign.Name (binding (v + 1)) h' tidy.name.name tidy.name.sign refl (within_binding (v + 1) limit) in
-    let c = step_colon T (32 ∷ (bytes_at A b.sort ++ post)) n.next no_loads n.later within_none in
-    let s = step_name T (bytes_at A b.sort) post (c.next + 1) Sign.Name no_loads (blank_later T _ c.next c.later) tidy.sort.name tidy.sort.sign e within_none in
+    let m = binder_marks A T at post v b tidy h e limit in
     record {
-      next = s.next;
-      marks = n.mark ∷ c.mark ∷ s.mark ∷ [];
-      tree = record { name = n.mark.word; sort = s.mark.word };
-      later = s.later;
-      goes =
-          goes_on T at n.next s.next (n.mark ∷ []) (c.mark ∷ s.mark ∷ []) n.goes
-          (goes_on T n.next c.next s.next (c.mark ∷ []) (s.mark ∷ []) c.goes
-          (goes_on T c.next (c.next + 1) s.next [] (s.mark ∷ []) (goes_blank T _ c.next c.later) s.goes));
-      spelled = λ rest. IsBinder.binder n.mark c.mark s.mark n.is c.is s.is;
-      same = record { name = sym n.spelled; sort = sym s.spelled };
+      next = m.next;
+      marks = m.name ∷ m.colon ∷ m.sort ∷ [];
+      tree = record { name = m.name.word; sort = m.sort.word };
+      later = m.later;
+      goes = m.goes;
+      spelled = λ rest. IsBinder.binder m.name m.colon m.sort m.name_is m.colon_is m.sort_is;
+      same = m.same;
     }
 
+-- further binders: binders that end here go on with them
 pub record BindersAt (A T : List ℕ) (at : ℕ) (post : List ℕ) (v j : ℕ) (bs : List Binder) : Type 0 where
   pub next : ℕ
   pub marks : List Mark
