@@ -1,4 +1,4 @@
--- Pieces in a row, one more at a time, and a formula's text as an operand.
+-- Pieces in a row, one more at a time, and how runs are shown.
 use Rattle.std.specs.Prelude.{◌≡◌, ◌==◌, ℕ, zero, suc, ◌+◌, ◌<◌, Bool, false, List, [], ◌∷◌, ◌++◌, length, map, take, if◌then◌else◌, codes}
 use Rattle.std.specs.List.{flat_map}
 use Rattle.std.proofs.Common.{refl, ap, sym, ◌∙◌, get_or, arith, append_assoc, rules}
@@ -6,7 +6,7 @@ use Rattle.std.proofs.lemmas.List.{take_more, map-append, append-nil, length-map
 use Rattle.std.proofs.lemmas.Simd.{map-map}
 use Rattle.std.proofs.lemmas.Bool.Decides.{nat_tests}
 use Rattle.std.proofs.lemmas.Grind.{flat_map-append}
-use Rattle.sw_logic.specs.Canonical.{joined, Shown, shown}
+use Rattle.sw_logic.specs.Canonical.{joined, Shown, in_brackets, shown}
 use Rattle.sw_logic.specs.declared.syntax.Signature.{Signature}
 use Rattle.sw_logic.specs.declared.syntax.Formula as formulas
 use Rattle.sw_logic.specs.declared.syntax.Formula.{Formula}
@@ -32,17 +32,18 @@ joined_more b f xs i d h =
     ∙ one_more b (map f (take i xs)) (f (get_or xs i d))
     ∙ ap (λ k. joined b (map f (take i xs)) ++ ((if k == 0 then [] else b) ++ f (get_or xs i d))) n
 
+-- how runs are shown
 pub shown-All : (sig : Signature) (scope : List (List ℕ)) (ps : List Formula)
-    → (shown sig scope (formula.All ps)).text ≡ joined (codes " & ") (map (λ (f : Formula). (shown sig scope f).operand) ps)
+    → shown sig scope (formula.All ps) ≡ in_brackets (joined (codes " & ") (map (λ (f : Formula). (shown sig scope f).operand) ps))
 shown-All sig scope ps =
-    let step : (shown sig scope (formula.All ps)).text ≡ joined (codes " & ") (map (λ (p : List (List ℕ) → Shown). (p scope).operand) (map (λ (f : Formula) (s : List (List ℕ)). shown sig s f) ps)) = search (rules, formulas.the_lemmas) in
-    step ∙ ap (joined (codes " & ")) (map-map _ _ ps)
+    let step : shown sig scope (formula.All ps) ≡ in_brackets (joined (codes " & ") (map (λ (p : List (List ℕ) → Shown). (p scope).operand) (map (λ (f : Formula) (s : List (List ℕ)). shown sig s f) ps))) = search (rules, formulas.the_lemmas) in
+    step ∙ ap (λ xs. in_brackets (joined (codes " & ") xs)) (map-map _ _ ps)
 
 pub shown-Any : (sig : Signature) (scope : List (List ℕ)) (ps : List Formula)
-    → (shown sig scope (formula.Any ps)).text ≡ joined (codes " | ") (map (λ (f : Formula). (shown sig scope f).operand) ps)
+    → shown sig scope (formula.Any ps) ≡ in_brackets (joined (codes " | ") (map (λ (f : Formula). (shown sig scope f).operand) ps))
 shown-Any sig scope ps =
-    let step : (shown sig scope (formula.Any ps)).text ≡ joined (codes " | ") (map (λ (p : List (List ℕ) → Shown). (p scope).operand) (map (λ (f : Formula) (s : List (List ℕ)). shown sig s f) ps)) = search (rules, formulas.the_lemmas) in
-    step ∙ ap (joined (codes " | ")) (map-map _ _ ps)
+    let step : shown sig scope (formula.Any ps) ≡ in_brackets (joined (codes " | ") (map (λ (p : List (List ℕ) → Shown). (p scope).operand) (map (λ (f : Formula) (s : List (List ℕ)). shown sig s f) ps))) = search (rules, formulas.the_lemmas) in
+    step ∙ ap (λ xs. in_brackets (joined (codes " | ") xs)) (map-map _ _ ps)
 
 -- what is written, with one more piece
 pub written : {A : Type 0} (b : List ℕ) (f : A → List ℕ) (xs : List A) (i : ℕ) (d : A) (old before between after : List ℕ) → i < length xs

@@ -11,3 +11,4 @@ pub mod Names
 pub mod Resolving
 pub mod Texts
 pub mod Printing
+pub mod ReadsBack
