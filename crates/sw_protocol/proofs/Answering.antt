@@ -1,27 +1,25 @@
 -- What the machine's state says of the words that it has read.
-use Rattle.std.proofs.Common.{◌≡◌, ◌⊎◌, inl, inr, ℕ, ◌+◌, ◌<◌, ◌≤◌, Bool, List, [], ◌∷◌, ◌++◌, length, take, drop, get_or, Option, Some, None, refl, sym, ap, subst, arith, ◌∙◌}
+use Rattle.std.proofs.Common.{◌≡◌, ◌⊎◌, inl, inr, ℕ, ◌+◌, ◌<◌, ◌≤◌, List, [], ◌∷◌, ◌++◌, length, take, drop, get_or, Option, Some, None, refl, sym, ap, subst, arith, ◌∙◌}
 use Rattle.std.specs.Prelude.{option_and_then, option_map}
 use Rattle.std.specs.List.{AllByRecursion}
-use Rattle.std.proofs.lemmas.List.{take_more, map-append, append-nil, append_assoc, take-map, take-append-drop}
+use Rattle.std.proofs.lemmas.List.{take_more, map-append, take-map, take-append-drop}
 use Rattle.std.proofs.Math.Seq.{take-length}
 use Rattle.sw_text.specs.declared.words.Sign.{Sign}
 use Rattle.sw_text.specs.declared.words.Word.{Word}
 use Rattle.sw_text.specs.declared.tree.Tree.{Tree}
 use Rattle.sw_text.specs.declared.limits.TheConstants.{NESTINGS}
-use Rattle.sw_text.specs.declared.machine.State as formula
 use Rattle.sw_text.specs.Grammar.{Mark, opening}
 use Rattle.sw_text.specs.Limits.{IsWithin}
 use Rattle.sw_text.specs.Machine as machine
 use Rattle.sw_text.specs.Answers.{words_in, Begins}
 use Rattle.sw_text.proofs.Viable.{made}
 use Rattle.sw_protocol.specs.declared.tree.Declaration.{Declaration}
-use Rattle.sw_protocol.specs.declared.phases.Owner.{Owner}
 use Rattle.sw_protocol.specs.declared.phases.Phase.{Phase}
 use Rattle.sw_protocol.specs.declared.parsing.Parsed.{Parsed}
 use Rattle.sw_protocol.specs.Grammar.{AreDeclarations}
-use Rattle.sw_protocol.specs.Machine.{owned, ended, nests, alone_of, closed, Next, next, next_by, State, after, start, finish, finish_by}
+use Rattle.sw_protocol.specs.Machine.{owned, ended, nests, alone_of, closed, Next, next, next_by, State, after, start, finish}
 use Rattle.sw_protocol.specs.Steps.{Finishes}
-use Rattle.sw_protocol.specs.Answers.{CanBegin, IsWhole, StopsAt, EndsPast, IsSyntax, GoesPast, IsTooNested, IsAnswer}
+use Rattle.sw_protocol.specs.Answers.{CanBegin, StopsAt, EndsPast, IsSyntax, GoesPast, IsTooNested, IsAnswer}
 use Rattle.sw_protocol.proofs.Reading.{at, Reads, reads_on}
 use Rattle.sw_protocol.proofs.Complete.{declarations_read}
 use Rattle.sw_protocol.proofs.Sound.{declarations_sound, all_held}

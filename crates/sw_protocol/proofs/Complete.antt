@@ -1,5 +1,5 @@
 -- Words that spell declarations are read as those declarations.
-use Rattle.std.proofs.Common.{◌≡◌, ℕ, ◌+◌, Bool, true, false, List, [], ◌∷◌, ◌++◌, length, Option, Some, None, refl, sym, ap, subst, ◌∙◌}
+use Rattle.std.proofs.Common.{◌≡◌, ℕ, Bool, true, false, List, [], ◌∷◌, ◌++◌, length, Option, Some, None, refl, sym, ap, subst}
 use Rattle.std.specs.Prelude.{option_map}
 use Rattle.std.proofs.lemmas.List.{append-nil, append_assoc}
 use Rattle.sw_text.specs.declared.words.Keyword.{Keyword}
@@ -12,7 +12,7 @@ use Rattle.sw_text.specs.declared.frames.Frame.{Frame}
 use Rattle.sw_text.specs.declared.machine.Stage.{Stage}
 use Rattle.sw_text.specs.declared.machine.Last.{Last}
 use Rattle.sw_text.specs.declared.machine.State as formula
-use Rattle.sw_text.specs.Grammar.{Mark, Is, no_loads, opening, binding, End, IsFormula}
+use Rattle.sw_text.specs.Grammar.{Mark, Is, no_loads, End, IsFormula}
 use Rattle.sw_text.specs.Machine as machine
 use Rattle.sw_text.proofs.Reading as text_reading
 use Rattle.sw_text.proofs.Complete.{formula_complete}
@@ -24,8 +24,8 @@ use Rattle.sw_protocol.specs.declared.phases.Typing.{Typing}
 use Rattle.sw_protocol.specs.declared.phases.Listing.{Listing}
 use Rattle.sw_protocol.specs.declared.phases.Owner.{Owner}
 use Rattle.sw_protocol.specs.declared.phases.Phase.{Phase}
-use Rattle.sw_protocol.specs.Grammar.{IsNew, change, statement, IsKeyword, EndsFormula, with_params, AreNames, AreBracketed, AreSorts, IsParam, AreParams, MayTake, MayModify, IsHeading, IsDeclaration, AreDeclarations}
-use Rattle.sw_protocol.specs.Machine.{formula_of, after_item, params_of, owned, closed, gone, alone_of, next_by, typed, State}
+use Rattle.sw_protocol.specs.Grammar.{change, statement, EndsFormula, with_params, AreNames, AreBracketed, AreSorts, IsParam, AreParams, MayTake, MayModify, IsHeading, IsDeclaration, AreDeclarations}
+use Rattle.sw_protocol.specs.Machine.{formula_of, params_of, owned, closed, gone, alone_of, next_by, typed}
 use Rattle.sw_protocol.proofs.Reading.{at, Reads, reads_on, shows, reads_one, reads_end}
 
 -- no formula has a semicolon

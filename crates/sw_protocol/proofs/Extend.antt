@@ -1,5 +1,5 @@
 -- What is spelled with nothing after it is spelled with more marks after it.
-use Rattle.std.proofs.Common.{ℕ, Bool, List, ◌∷◌, ◌++◌}
+use Rattle.std.proofs.Common.{ℕ, Bool, List, ◌++◌}
 use Rattle.sw_text.specs.declared.words.Word.{Word}
 use Rattle.sw_text.specs.declared.tree.Binder.{Binder}
 use Rattle.sw_text.specs.declared.tree.TermTree.{TermTree}

@@ -1,6 +1,6 @@
 -- A list of words has one answer: each answer is what the machine comes to.
 use Rattle.std.proofs.Common.{◌≡◌, ◌⊎◌, inl, inr, ℕ, ◌+◌, ◌<◌, ◌≤◌, Bool, true, false, List, [], ◌∷◌, ◌++◌, length, take, drop, get_or, Option, Some, None, refl, sym, ap, subst, arith, ◌∙◌}
-use Rattle.std.specs.Prelude.{nat_lt, if◌then◌else◌, ◌||◌, option_map}
+use Rattle.std.specs.Prelude.{nat_lt, if◌then◌else◌, ◌||◌}
 use Rattle.std.specs.List.{AllByRecursion}
 use Rattle.std.proofs.lemmas.Bool.Decides.{nat_tests}
 use Rattle.std.proofs.lemmas.List.{at_drop_more, map-append, append_assoc, append-nil, take-append-drop, length-map, length-take-le}
@@ -9,7 +9,7 @@ use Rattle.sw_text.specs.declared.words.Sign.{Sign}
 use Rattle.sw_text.specs.declared.words.Word.{Word}
 use Rattle.sw_text.specs.declared.limits.TheConstants.{NESTINGS, PATH}
 use Rattle.sw_logic.specs.declared.variables.TheConstants.{VARIABLES}
-use Rattle.sw_text.specs.Grammar.{Loads, Mark, opening}
+use Rattle.sw_text.specs.Grammar.{Loads, Mark}
 use Rattle.sw_text.specs.Limits.{IsWithin}
 use Rattle.sw_text.specs.Answers.{words_in, Begins}
 use Rattle.sw_protocol.specs.declared.tree.Declaration.{Declaration}
@@ -17,12 +17,12 @@ use Rattle.sw_protocol.specs.declared.phases.Phase.{Phase}
 use Rattle.sw_protocol.specs.declared.parsing.Parsed.{Parsed}
 use Rattle.sw_protocol.specs.Grammar.{AreDeclarations}
 use Rattle.sw_protocol.specs.Machine.{nests, Next, next, State, after, start, finish, finish_by}
-use Rattle.sw_protocol.specs.Answers.{CanBegin, IsWhole, StopsAt, IsSyntax, GoesPast, IsTooNested, IsAnswer, OneParse}
+use Rattle.sw_protocol.specs.Answers.{IsWhole, StopsAt, IsSyntax, GoesPast, IsTooNested, IsAnswer, OneParse}
 use Rattle.sw_protocol.proofs.Reading.{at, Reads}
 use Rattle.sw_protocol.proofs.Complete.{declarations_read}
 use Rattle.sw_protocol.proofs.Sound.{declarations_sound}
 use Rattle.sw_text.proofs.Viable.{made}
-use Rattle.sw_protocol.proofs.Answering.{Splits, splits, HasRead, words_more, reads_more, goes_on, begins_runs, shallow, deep_ends, ends_past}
+use Rattle.sw_protocol.proofs.Answering.{splits, HasRead, words_more, reads_more, goes_on, begins_runs, shallow, deep_ends, ends_past}
 
 -- a limit is gone past
 abbrev pub is_past : Loads → Bool
@@ -156,7 +156,7 @@ module _ (text : List ℕ) where
         let h : HasRead text ws n r.0 = record { marks = k.marks; begins = k.begins; reads = r.1 } in
         refuses n r.0 h k.stops (λ e. no_end n r.0 h k.none e (finish r.0) refl)
         ∙ ap (λ (b : Bool). if b then Parsed.TooDeep n else Parsed.Syntax n)
-            (deep_false (nests r.0.phase) (λ deep. let d = deep_ends r.0.phase deep in k.shallow (ends_past text ws r.0 d.0 k.marks r.1 d.1 deep)))
+        (deep_false (nests r.0.phase) (λ deep. let d = deep_ends r.0.phase deep in k.shallow (ends_past text ws r.0 d.0 k.marks r.1 d.1 deep)))
 
     nested_answer : (n : ℕ) → IsTooNested text ws n → answer text 0 start ws ≡ Parsed.TooDeep n
     nested_answer n k =

@@ -9,7 +9,7 @@ use Rattle.sw_text.specs.declared.tree.Binder.{Binder}
 use Rattle.sw_text.specs.declared.tree.Tree.{Tree}
 use Rattle.sw_text.specs.declared.machine.Stage.{Stage}
 use Rattle.sw_text.specs.declared.machine.State as formula
-use Rattle.sw_text.specs.Grammar.{Mark, Is, Context, no_loads, opening, binding, End, IsFormula}
+use Rattle.sw_text.specs.Grammar.{Mark, Is, Context, no_loads, binding, End, IsFormula}
 use Rattle.sw_text.specs.Machine as machine
 use Rattle.sw_text.specs.Names.{bytes_at}
 use Rattle.sw_text.proofs.Reduce.{by_test}
@@ -24,7 +24,7 @@ use Rattle.sw_protocol.specs.declared.phases.Listing.{Listing}
 use Rattle.sw_protocol.specs.declared.phases.Owner.{Owner}
 use Rattle.sw_protocol.specs.declared.phases.Phase.{Phase}
 use Rattle.sw_protocol.specs.Grammar.{is_hidden, IsNew, change, statement, IsKeyword, EndsFormula, with_params, AreNames, AreBracketed, AreSorts, IsParam, AreParams, MayTake, MayModify, IsHeading, IsDeclaration, AreDeclarations}
-use Rattle.sw_protocol.specs.Machine.{named, shown, begin, changed, in_name, after_relation, after_function, after_transition, in_params, after_params, in_list, after_item, after_typing, typed, in_sort, in_formula, params_of, owned, walk, ended, nests, loads_by, closed, gone, alone_of, Next, next_by, next, State, after, start, finish, finish_by}
+use Rattle.sw_protocol.specs.Machine.{named, shown, begin, changed, in_name, after_relation, after_function, after_transition, in_params, after_params, in_list, after_item, after_typing, typed, in_sort, params_of, owned, walk, ended, nests, loads_by, closed, gone, alone_of, Next, next_by, next, State, after, start, finish, finish_by}
 use Rattle.sw_protocol.proofs.Reading.{Reads}
 use Rattle.sw_protocol.proofs.Extend.{formula_on}
 
@@ -67,12 +67,12 @@ pub data Commas : List Mark → List Word → List Mark → Type 0 where
   listed : {ms rest : List Mark} {ns : List Word} (m : Mark) → AreNames ms ns (m ∷ rest) → Is Sign.Comma no_loads m → Commas ms ns rest
 
 -- a list before another name, and after a name
-pub record Listing-Before (text : List ℕ) (l : Listing) (ns : List Word) (from rest : List Mark) : Type 0 where
+pub record ListBefore (text : List ℕ) (l : Listing) (ns : List Word) (from rest : List Mark) : Type 0 where
   pub names : List Mark
   pub lists : Lists text l from names
   pub commas : Commas names ns rest
 
-pub record Listing-After (text : List ℕ) (l : Listing) (ns : List Word) (from rest : List Mark) : Type 0 where
+pub record ListAfter (text : List ℕ) (l : Listing) (ns : List Word) (from rest : List Mark) : Type 0 where
   pub names : List Mark
   pub lists : Lists text l from names
   pub are : AreNames names ns rest
@@ -141,8 +141,8 @@ SoFar text (Phase.Function n) from rest = Named text Naming.Function n from rest
 SoFar text (Phase.Transition n) from rest = Named text Naming.Transition n from rest
 SoFar text (Phase.Params n bs stage) from rest = Binding text n bs stage from rest
 SoFar text (Phase.Heading n bs) from rest = Headed text n bs from rest
-SoFar text (Phase.List l ns) from rest = Listing-Before text l ns from rest
-SoFar text (Phase.Listed l ns) from rest = Listing-After text l ns from rest
+SoFar text (Phase.List l ns) from rest = ListBefore text l ns from rest
+SoFar text (Phase.Listed l ns) from rest = ListAfter text l ns from rest
 SoFar text (Phase.Colon t) from rest = Types text t from rest
 SoFar text (Phase.Sort t) from rest = Colons text t from rest
 SoFar text (Phase.Formula o s) from rest = Formulated text o s from rest
@@ -255,11 +255,11 @@ module _ (text : List ℕ) (rest : List Mark) (m : Mark) where
   names_more Commas.unlisted i = AreNames.one_name m i
   names_more (Commas.listed c hs j) i = AreNames.more_names c m hs j i
 
-  list_keeps : {from : List Mark} (l : Listing) (ns : List Word) (sign : Sign) → Listing-Before text l ns from (m ∷ rest) → Keeps text from rest m sign (in_list l ns m.word sign)
+  list_keeps : {from : List Mark} (l : Listing) (ns : List Word) (sign : Sign) → ListBefore text l ns from (m ∷ rest) → Keeps text from rest m sign (in_list l ns m.word sign)
   list_keeps l ns Sign.Name h = λ i. record { names = h.names; lists = h.lists; are = names_more h.commas i }
   list_keeps l ns _ h = tt
 
-  item_keeps : {from : List Mark} (l : Listing) (ns : List Word) (sign : Sign) → Listing-After text l ns from (m ∷ rest) → Keeps text from rest m sign (after_item l ns sign)
+  item_keeps : {from : List Mark} (l : Listing) (ns : List Word) (sign : Sign) → ListAfter text l ns from (m ∷ rest) → Keeps text from rest m sign (after_item l ns sign)
   item_keeps (Listing.Relation mutable n) ns Sign.Comma h = λ i. record { names = h.names; lists = h.lists; commas = Commas.listed m h.are i }
   item_keeps (Listing.Function n) ns Sign.Comma h = λ i. record { names = h.names; lists = h.lists; commas = Commas.listed m h.are i }
   item_keeps (Listing.Modified n bs) ns Sign.Comma h = λ i. record { names = h.names; lists = h.lists; commas = Commas.listed m h.are i }

@@ -1,5 +1,5 @@
 -- What the steps of the machine answer.
-use Rattle.std.proofs.Common.{◌≡◌, inl, inr, ℕ, ◌<◌, ◌≤◌, List, Option, Some, None, refl, sym, ap, subst, arith, ◌∙◌}
+use Rattle.std.proofs.Common.{◌≡◌, inl, ℕ, ◌<◌, List, Option, Some, None, refl, sym, ap, subst, arith, ◌∙◌}
 use Rattle.std.specs.Prelude.{option_map}
 use Rattle.sw_text.specs.declared.words.Sign.{Sign}
 use Rattle.sw_text.specs.declared.words.Word.{Word}
@@ -7,14 +7,13 @@ use Rattle.sw_text.specs.declared.tree.Tree.{Tree}
 use Rattle.sw_text.specs.declared.limits.TheConstants.{NESTINGS}
 use Rattle.sw_text.specs.declared.machine.State as formula
 use Rattle.sw_text.specs.Measures.{nestings_of}
-use Rattle.sw_text.specs.Limits.{IsWithin}
 use Rattle.sw_text.specs.Machine as machine
 use Rattle.sw_protocol.specs.declared.tree.Declaration.{Declaration}
 use Rattle.sw_protocol.specs.declared.phases.Owner.{Owner}
 use Rattle.sw_protocol.specs.declared.phases.Phase.{Phase}
 use Rattle.sw_protocol.specs.declared.phases.Move.{Move}
 use Rattle.sw_protocol.specs.declared.parsing.Parsed.{Parsed}
-use Rattle.sw_protocol.specs.Machine.{owned, walk, ended, nests, alone_of, closed, gone, loads_in, next_by, next, finish_by}
+use Rattle.sw_protocol.specs.Machine.{owned, walk, ended, nests, alone_of, closed, gone, next_by, next, finish_by}
 use Rattle.sw_protocol.specs.Steps.{EndsBy, Answers, unfinished, Finishes}
 
 -- a formula that ends here and is too deep

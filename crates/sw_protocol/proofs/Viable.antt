@@ -1,13 +1,12 @@
 -- Whatever was read goes on to a protocol.
-use Rattle.std.proofs.Common.{◌≡◌, ℕ, Bool, true, false, List, [], ◌∷◌, ◌++◌, Option, Some, None, refl, ap, ◌∙◌}
-use Rattle.std.specs.Prelude.{option_map}
+use Rattle.std.proofs.Common.{◌≡◌, ℕ, Bool, true, false, List, [], ◌∷◌, ◌++◌, Some, None, refl}
 use Rattle.sw_text.specs.declared.words.Keyword.{Keyword}
 use Rattle.sw_text.specs.declared.words.Sign.{Sign}
 use Rattle.sw_text.specs.declared.words.Word.{Word}
 use Rattle.sw_text.specs.declared.tree.Binder.{Binder}
 use Rattle.sw_text.specs.declared.machine.Stage.{Stage}
 use Rattle.sw_text.specs.declared.machine.State as formula
-use Rattle.sw_text.specs.Grammar.{Loads, Mark, Context, opening}
+use Rattle.sw_text.specs.Grammar.{Loads, Mark, Context}
 use Rattle.sw_text.specs.Machine as machine
 use Rattle.sw_text.proofs.Reading as text_reading
 use Rattle.sw_text.proofs.Viable.{IsProper, start_proper, step_proper, completes, made}
@@ -18,10 +17,10 @@ use Rattle.sw_protocol.specs.declared.phases.Listing.{Listing}
 use Rattle.sw_protocol.specs.declared.phases.Owner.{Owner}
 use Rattle.sw_protocol.specs.declared.phases.Phase.{Phase}
 use Rattle.sw_protocol.specs.Grammar.{with_params}
-use Rattle.sw_protocol.specs.Machine.{formula_of, named, typed, params_of, owned, alone_of, next_by, State}
+use Rattle.sw_protocol.specs.Machine.{formula_of, typed, params_of, owned, next_by, State}
 use Rattle.sw_protocol.proofs.Reading.{at, Reads, reads_on, reads_one, reads_end}
 use Rattle.sw_protocol.proofs.Complete.{lifts, formula_ends}
-use Rattle.sw_protocol.proofs.Sound.{SoFar, Formulated}
+use Rattle.sw_protocol.proofs.Sound.{SoFar}
 
 -- more marks may follow
 pub reads_extend : {text : List ℕ} {s t : State} {ms rest : List Mark} (back : List Mark) → Reads text s ms t rest → Reads text s (ms ++ back) t (rest ++ back)

@@ -1,5 +1,5 @@
 -- How declarations are read, a word at a time.
-use Rattle.std.specs.Prelude.{◌≡◌, ℕ, ◌+◌, Bool, false, true, List, [], ◌∷◌, ◌++◌, length, Option, Some, None, option_map, if◌then◌else◌}
+use Rattle.std.specs.Prelude.{ℕ, ◌+◌, Bool, false, true, List, [], ◌∷◌, ◌++◌, length, Option, Some, None, option_map, if◌then◌else◌}
 use Rattle.sw_text.specs.declared.words.Keyword.{Keyword}
 use Rattle.sw_text.specs.declared.words.Sign.{Sign}
 use Rattle.sw_text.specs.declared.words.Word.{Word}
@@ -12,7 +12,6 @@ use Rattle.sw_text.specs.Grammar.{Loads, no_loads, opening, binding}
 use Rattle.sw_text.specs.Machine as machine
 use Rattle.sw_text.specs.Names.{bytes_at}
 use Rattle.sw_protocol.specs.declared.tree.Statement.{Statement}
-use Rattle.sw_protocol.specs.declared.tree.Heading.{Heading}
 use Rattle.sw_protocol.specs.declared.tree.Declaration.{Declaration}
 use Rattle.sw_protocol.specs.declared.phases.Naming.{Naming}
 use Rattle.sw_protocol.specs.declared.phases.Typing.{Typing}

@@ -1,6 +1,5 @@
 -- What the functions of the machine answer.
 use Rattle.std.specs.Prelude.{◌≡◌, ◌⊎◌, ◌<◌, ◌≤◌, ℕ, List, Option, Some, None}
-use Rattle.sw_text.specs.declared.tree.Tree.{Tree}
 use Rattle.sw_text.specs.declared.limits.TheConstants.{NESTINGS}
 use Rattle.sw_text.specs.Grammar.{Loads}
 use Rattle.sw_text.specs.Limits.{IsWithin}

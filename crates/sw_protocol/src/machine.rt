@@ -22,8 +22,7 @@ use sw_text::measures::nestings_of;
 use sw_text::tree::{Binder, Tree};
 use sw_text::words::{Keyword, Sign, Word, bytes_of};
 
-/// What a word does that is no semicolon: it is read, or it is not. In the second case the formula is
-/// the one that may end before it.
+/// What a word does that is no semicolon: it is read; or it is not, and a formula may end before it.
 #[derive(Drop)]
 enum Walk {
     Taken(Phase),

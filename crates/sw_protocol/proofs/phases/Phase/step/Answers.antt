@@ -18,6 +18,8 @@ returns-then-is_within c =
 pub returns-in-Taken : goal.returns-in-Taken
 returns-in-Taken c =
     let walks = rw c.in-Taken.is at c.in_ok-phase.ensures in
-    inl
-    (gone c.args.word.sign c.in-Taken.phase, taken c.args.text.now c.args.self c.in-Taken.phase c.args.word c.in_default.not-Semicolon walks,
-    λ w. let yes = c.is_within.ensures.1 w in let no = c.if-is_within.false in cc)
+    inl (
+      gone c.args.word.sign c.in-Taken.phase,
+      taken c.args.text.now c.args.self c.in-Taken.phase c.args.word c.in_default.not-Semicolon walks,
+      λ w. let yes = c.is_within.ensures.1 w in let no = c.if-is_within.false in cc,
+    )
