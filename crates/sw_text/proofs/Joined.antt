@@ -1,7 +1,7 @@
 -- Pieces in a row, one more at a time, and how runs are shown.
-use Rattle.std.specs.Prelude.{◌≡◌, ◌==◌, ℕ, zero, suc, ◌+◌, ◌<◌, Bool, false, List, [], ◌∷◌, ◌++◌, length, map, take, if◌then◌else◌, codes}
+use Rattle.std.specs.Prelude.{◌≡◌, ◌==◌, ℕ, suc, ◌+◌, ◌<◌, Bool, false, List, [], ◌∷◌, ◌++◌, length, map, take, if◌then◌else◌, codes}
 use Rattle.std.specs.List.{flat_map}
-use Rattle.std.proofs.Common.{refl, ap, sym, ◌∙◌, get_or, arith, append_assoc, rules}
+use Rattle.std.proofs.Common.{ap, sym, ◌∙◌, get_or, arith, append_assoc, rules}
 use Rattle.std.proofs.lemmas.List.{take_more, map-append, append-nil, length-map, length-take-le}
 use Rattle.std.proofs.lemmas.Simd.{map-map}
 use Rattle.std.proofs.lemmas.Bool.Decides.{nat_tests}

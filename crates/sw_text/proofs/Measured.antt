@@ -1,5 +1,5 @@
 -- How deep trees of the same names are, and that canonical text opens as many nestings as are measured.
-use Rattle.std.specs.Prelude.{◌≡◌, ℕ, ◌+◌, max, Bool, true, false, List, [], ◌∷◌, map}
+use Rattle.std.specs.Prelude.{◌≡◌, ℕ, ◌+◌, max, Bool, List, ◌∷◌, map}
 use Rattle.std.proofs.Common.{refl, sym, ap, ◌∙◌, rules}
 use Rattle.sw_logic.specs.Canonical.{Shown}
 use Rattle.sw_text.specs.declared.words.Word.{Word}

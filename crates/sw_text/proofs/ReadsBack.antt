@@ -1,12 +1,11 @@
 -- What was read and is printed reads back equal: as a part of any text, and by itself.
-use Rattle.std.specs.Prelude.{◌≡◌, ◌==◌, ℕ, ◌+◌, ◌<◌, ◌≤◌, Bool, true, false, List, [], ◌∷◌, ◌++◌, length, map, take, drop, Result, Ok, Err, if◌then◌else◌}
+use Rattle.std.specs.Prelude.{◌≡◌, ◌==◌, ℕ, ◌+◌, ◌≤◌, Bool, true, false, List, [], ◌∷◌, ◌++◌, length, map, Result, Ok, Err, if◌then◌else◌}
 use Rattle.std.specs.List.{AllByRecursion}
 use Rattle.std.proofs.Common.{refl, sym, ap, subst, ◌∙◌, arith, append-nil, length-drop}
-use Rattle.std.proofs.lemmas.List.{take_all, map-append}
-use Rattle.std.proofs.lemmas.Simd.{map-map}
+use Rattle.std.proofs.lemmas.List.{take_all}
 use Rattle.sw_logic.specs.declared.syntax.Signature.{Signature}
 use Rattle.sw_logic.specs.declared.syntax.Formula.{Formula}
-use Rattle.sw_logic.specs.Canonical.{Shown, text_of, names_of, shown}
+use Rattle.sw_logic.specs.Canonical.{Shown, text_of, names_of}
 use Rattle.sw_scan.specs.declared.Token.{Token}
 use Rattle.sw_scan.specs.Scans.{Scans}
 use Rattle.sw_text.specs.declared.limits.TheConstants.{NESTINGS}
@@ -18,15 +17,13 @@ use Rattle.sw_text.specs.declared.texts.TextError.{TextError}
 use Rattle.sw_text.specs.Words.{word_of}
 use Rattle.sw_text.specs.Measures.{Nestings, nestings_of}
 use Rattle.sw_text.specs.Grammar.{Mark, Context, End, IsFormula}
-use Rattle.sw_text.specs.Limits.{IsWithin}
-use Rattle.sw_text.specs.Answers.{words_in, Spelled, Begins, StopsAt, IsLongest, IsAnswer}
+use Rattle.sw_text.specs.Answers.{words_in, IsLongest, IsAnswer}
 use Rattle.sw_text.specs.Names.{Around, Scope, faults, formula_read}
 use Rattle.sw_text.specs.Texts.{HasFormula, outcome, first_broken, base_in, place_in}
 use Rattle.sw_text.specs.ReadsBack.{with_text, ReadsBack}
 use Rattle.sw_text.proofs.Spacing.{Goes, Here, breaks, token_of}
-use Rattle.sw_text.proofs.Tidy.{Tidy, Same}
 use Rattle.sw_text.proofs.Measured.{same_nestings, tidy_nestings}
-use Rattle.sw_text.proofs.SpeltForms.{Spelt, Ways, IsAt, formula_in, ways}
+use Rattle.sw_text.proofs.SpeltForms.{IsAt, formula_in, ways}
 use Rattle.sw_text.proofs.SameMeaning.{formula_same, formula_fine}
 use Rattle.sw_text.proofs.Tidied.{AllGood, HasTidy, formula_tidy, scanned_good, marks_good}
 use Rattle.sw_text.proofs.ShownAs.{Extends, extends_itself, shown_is}

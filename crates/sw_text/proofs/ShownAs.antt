@@ -22,7 +22,6 @@ use Rattle.sw_logic.specs.Canonical.{Shown, joined, symbol_text, name_or_none, a
 use Rattle.sw_text.specs.declared.words.Word.{Word}
 use Rattle.sw_text.specs.declared.tree.Binder.{Binder}
 use Rattle.sw_text.specs.declared.tree.TermTree.{TermTree}
-use Rattle.sw_text.specs.declared.tree.TermTree.TheVariants as term
 use Rattle.sw_text.specs.declared.tree.Tree as trees
 use Rattle.sw_text.specs.declared.tree.Tree.{Tree}
 use Rattle.sw_text.specs.declared.tree.Tree.TheVariants as tree
@@ -31,12 +30,12 @@ use Rattle.sw_text.specs.declared.names.Wanted.{Wanted}
 use Rattle.sw_text.specs.declared.names.Head.{Head}
 use Rattle.sw_text.specs.Measures.{Nestings}
 use Rattle.sw_text.specs.Names.{Around, Scope, head_of, head_by, head_tests, head_faults, head_sorts, variable_tests, args_faults, term_faults, term_read, term_by, right_wanted, atom_by, atom_read, faults, formula_read, binder_faults, binders_faults, bound, bytes_at, sort_number, symbol_number, variable_number, number_or_0, is_none, is_declared, is_some_number, broken, quantified, next_wanted}
-use Rattle.sw_text.specs.Resolving.{equal_faults, all_faults, all_read, body_faults, body_read}
+use Rattle.sw_text.specs.Resolving.{all_faults, all_read}
 use Rattle.sw_text.proofs.Breaking.{term_faults_of, term_read_of}
 use Rattle.sw_text.proofs.Folding.{faults_Atom, read_Atom, faults_Equal, read_Equal, faults_Implies, faults_Iff}
 use Rattle.sw_text.proofs.SortedTerms.{apart, passed, Passed}
 use Rattle.sw_text.proofs.Joined.{shown-All, shown-Any}
-use Rattle.sw_text.proofs.Tidy.{prime_text, head_text, binder_piece, constant_text, quantifier_word, TidyTerm, TidyTerms, TidyBinder, TidyBinders, Tidy, TidyRun}
+use Rattle.sw_text.proofs.Tidy.{prime_text, head_text, binder_piece, constant_text, quantifier_word, TidyTerm, TidyTerms, TidyBinders, Tidy, TidyRun}
 use Rattle.sw_text.proofs.Measured.{two}
 use Rattle.sw_text.proofs.SameMeaning.{named_faults, named_read, named_atom, applied_atom, faults_Not, read_Not, faults_All, read_All, faults_Any, read_Any, read_Implies, read_Iff, faults_Quantified, read_Quantified}
 

@@ -1,7 +1,7 @@
 -- Pieces of a text scan to marks, one after another.
-use Rattle.std.specs.Prelude.{◌≡◌, ◌≢◌, ℕ, zero, suc, ◌+◌, ◌<◌, ◌≤◌, Bool, true, false, not, ◌&&◌, nat_eq, IsTrue, List, [], ◌∷◌, ◌++◌, length, map, take, drop, Option, Some, None, Result, Ok, Err, slice_index, codes}
-use Rattle.std.specs.List.{AllByRecursion, list_all, prefix_len, starts_with}
-use Rattle.std.proofs.Common.{refl, sym, ap, subst, ◌∙◌, arith, append_assoc, drop-cons, length-append, length-drop, lit<}
+use Rattle.std.specs.Prelude.{◌≡◌, ℕ, zero, suc, ◌+◌, ◌<◌, ◌≤◌, Bool, true, false, not, nat_eq, IsTrue, List, [], ◌∷◌, ◌++◌, length, map, take, drop, Some, Result, Ok, Err, slice_index, codes}
+use Rattle.std.specs.List.{AllByRecursion, list_all, prefix_len}
+use Rattle.std.proofs.Common.{refl, sym, ap, subst, ◌∙◌, arith, append_assoc, length-append, length-drop, lit<}
 use Rattle.std.proofs.Math.Seq.{take-append_seam, drop-append_seam}
 use Rattle.std.proofs.lemmas.List.{map-append}
 use Rattle.std.proofs.lemmas.Bool.{and_parts}
@@ -12,9 +12,8 @@ use Rattle.sw_scan.specs.Spelling.{is_blank, is_name, begins_name, continues_nam
 use Rattle.sw_scan.specs.Scans.{Scans, before}
 use Rattle.sw_scan.proofs.Fronts.{HasNoLong, name_by_kind, mark_by_kind, long_first}
 use Rattle.sw_text.specs.declared.words.Sign.{Sign}
-use Rattle.sw_text.specs.declared.words.Word.{Word}
 use Rattle.sw_text.specs.Words.{word_of, sign_by, name_sign}
-use Rattle.sw_text.specs.Grammar.{Mark, Loads, Is, no_loads}
+use Rattle.sw_text.specs.Grammar.{Mark, Loads, Is}
 use Rattle.sw_text.specs.Limits.{IsWithin}
 use Rattle.sw_text.specs.Names.{bytes_at}
 

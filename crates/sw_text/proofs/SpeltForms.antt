@@ -14,10 +14,10 @@ use Rattle.sw_text.specs.Names.{bytes_at}
 use Rattle.sw_text.specs.Measures.{Nestings, longest_path, bare as bare_count, bracketed}
 use Rattle.sw_text.specs.Grammar.{Mark, Loads, Context, End, Is, no_loads, opening, joining, binding, deeper, beside, inside, all_of, any_of, end_of, quantifier, constant, equality, equation as equation_tree, IsBinder, AreBinders, IsAtom, IsSingle, AreSingles, AreBoths, IsImplied, IsFormula}
 use Rattle.sw_text.specs.Limits.{IsWithin}
-use Rattle.sw_text.proofs.Spacing.{Goes, Here, Step, goes_none, goes_on, goes_blank, blank_later, breaks, step_name, step_left, step_right, step_comma, step_colon, step_dot, step_equal, step_unequal, step_and, step_or, step_arrow, step_double, step_not, no_equal, no_equal_more, name_no_equal}
+use Rattle.sw_text.proofs.Spacing.{Goes, Here, goes_none, goes_on, goes_blank, blank_later, breaks, step_name, step_left, step_right, step_comma, step_colon, step_dot, step_equal, step_unequal, step_and, step_or, step_arrow, step_double, step_not, no_equal, no_equal_more, name_no_equal}
 use Rattle.sw_text.proofs.Tidy.{IsNameIn, prime_text, head_text, binder_piece, constant_text, quantifier_word, level, TidyTerm, TidyBinder, TidyBinders, Tidy, TidyRun, SameTerm, SameBinder, SameBinders, Same, SameRun}
 use Rattle.sw_text.proofs.Measured.{same_path}
-use Rattle.sw_text.proofs.SpeltTerms.{within_none, within_opening, within_binding, here_as, Between, before_blank, after_blank, TermAt, term_at}
+use Rattle.sw_text.proofs.SpeltTerms.{within_none, within_opening, within_binding, here_as, Between, before_blank, after_blank, term_at}
 
 -- the context of a formula to the right of so many <->, with so many variables in scope
 pub record IsAt (c : Context) (i v : ℕ) : Type 0 where

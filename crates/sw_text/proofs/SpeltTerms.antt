@@ -1,7 +1,7 @@
 -- Where a text has the canonical text of a term, its marks spell a term of the same names.
-use Rattle.std.specs.Prelude.{◌≡◌, ℕ, ◌+◌, ◌≤◌, max, Bool, true, false, List, [], ◌∷◌, ◌++◌, length, codes}
+use Rattle.std.specs.Prelude.{◌≡◌, ℕ, ◌+◌, ◌≤◌, Bool, true, false, List, [], ◌∷◌, ◌++◌, codes}
 use Rattle.std.proofs.Common.{refl, sym, ap, subst, ◌∙◌, arith, append_assoc, append-nil, lit≤}
-use Rattle.sw_text.specs.declared.limits.TheConstants.{NESTINGS, PATH}
+use Rattle.sw_text.specs.declared.limits.TheConstants.{NESTINGS}
 use Rattle.sw_logic.specs.declared.variables.TheConstants.{VARIABLES}
 use Rattle.sw_text.specs.declared.words.Sign.{Sign}
 use Rattle.sw_text.specs.declared.words.Word.{Word}
@@ -10,7 +10,7 @@ use Rattle.sw_text.specs.declared.tree.TermTree.TheVariants as term
 use Rattle.sw_text.specs.Names.{bytes_at}
 use Rattle.sw_text.specs.Grammar.{Mark, no_loads, opening, binding, IsHead, IsTerm, AreTerms}
 use Rattle.sw_text.specs.Limits.{IsWithin}
-use Rattle.sw_text.proofs.Spacing.{Goes, Here, Step, goes_none, goes_on, goes_blank, blank_later, breaks, step_name, step_prime, step_left, step_right, step_comma}
+use Rattle.sw_text.proofs.Spacing.{Goes, Here, goes_none, goes_on, goes_blank, blank_later, breaks, step_name, step_prime, step_left, step_right, step_comma}
 use Rattle.sw_text.proofs.Tidy.{IsNameIn, head_text, TidyTerm, TidyTerms, SameBytes, SameTerm, SameTerms}
 
 pub within_none : IsWithin no_loads

@@ -1,5 +1,5 @@
 -- What is spelled within the limits, by names of a text, is a tidy tree.
-use Rattle.std.specs.Prelude.{◌≡◌, ℕ, zero, suc, ◌+◌, ◌<◌, ◌≤◌, max, Bool, true, false, ◌&&◌, cond, List, [], ◌∷◌, ◌++◌, length, map, take, drop, Option, Some, None, Result, Ok, Err, IfOk, if◌then◌else◌, codes}
+use Rattle.std.specs.Prelude.{◌≡◌, ℕ, ◌+◌, ◌≤◌, max, Bool, true, false, cond, List, [], ◌∷◌, ◌++◌, length, map, take, drop, Option, Some, Result, Ok, Err, IfOk, if◌then◌else◌, codes}
 use Rattle.std.specs.List.{AllByRecursion, list_all}
 use Rattle.std.specs.Map.{lookup}
 use Rattle.std.specs.Str.{bytes_eq}
@@ -11,7 +11,6 @@ use Rattle.sw_scan.specs.declared.Kind.{Kind}
 use Rattle.sw_scan.specs.declared.Token.{Token}
 use Rattle.sw_scan.specs.Spelling.{is_name, is_number, marks as mark_texts, kind_of}
 use Rattle.sw_scan.specs.Scans.{Scans, before}
-use Rattle.sw_text.specs.declared.limits.TheConstants.{PATH}
 use Rattle.sw_text.specs.declared.words.Sign.{Sign}
 use Rattle.sw_text.specs.declared.words.Word.{Word}
 use Rattle.sw_text.specs.declared.tree.Binder.{Binder}
@@ -19,10 +18,9 @@ use Rattle.sw_text.specs.declared.tree.TermTree.{TermTree}
 use Rattle.sw_text.specs.declared.tree.TermTree.TheVariants as term
 use Rattle.sw_text.specs.declared.tree.Tree.{Tree}
 use Rattle.sw_text.specs.declared.tree.Tree.TheVariants as tree
-use Rattle.sw_text.specs.Words.{word_of, sign_of, sign_by, name_sign}
-use Rattle.sw_text.specs.Names.{bytes_at}
+use Rattle.sw_text.specs.Words.{word_of, sign_of, sign_by}
 use Rattle.sw_text.specs.Measures.{Nestings, longest_path}
-use Rattle.sw_text.specs.Grammar.{Mark, Loads, Context, End, Is, joining, binding, deeper, beside, inside, all_of, any_of, IsHead, IsTerm, AreTerms, IsBinder, AreBinders, IsAtom, IsSingle, AreSingles, AreBoths, IsImplied, IsFormula}
+use Rattle.sw_text.specs.Grammar.{Mark, Context, End, joining, binding, inside, all_of, any_of, IsHead, IsTerm, AreTerms, IsBinder, AreBinders, IsAtom, IsSingle, AreSingles, AreBoths, IsImplied, IsFormula}
 use Rattle.sw_text.specs.Limits.{IsWithin}
 use Rattle.sw_text.specs.Answers.{words_in}
 use Rattle.sw_text.proofs.Tidy.{IsNameText, IsNameIn, TidyTerm, TidyTerms, TidyBinder, TidyBinders, Tidy, TidyRun}

@@ -1,5 +1,5 @@
-use Rattle.std.proofs.Common.{◌≡◌, List, ℕ, ap, sym, ◌∙◌, ◌++◌}
-use Rattle.std.specs.Prelude.{string_bytes, OnOk}
+use Rattle.std.proofs.Common.{List, ℕ, ap, ◌∙◌, ◌++◌}
+use Rattle.std.specs.Prelude.{string_bytes}
 use Rattle.sw_logic.specs.declared.syntax.Formula.{Formula}
 use Rattle.sw_logic.specs.Canonical.{shown}
 use Rattle.sw_text.specs.Printing.{names_in}

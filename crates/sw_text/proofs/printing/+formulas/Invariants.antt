@@ -1,5 +1,5 @@
 -- The parts so far are written.
-use Rattle.std.proofs.Common.{◌≡◌, ◌+◌, ◌*◌, ◌++◌, map, take}
+use Rattle.std.proofs.Common.{◌≡◌, ◌++◌, map, take}
 use Rattle.std.specs.Prelude.{string_bytes}
 use Rattle.sw_logic.specs.declared.syntax.Formula.{Formula}
 use Rattle.sw_logic.specs.Canonical.{joined, shown}

@@ -1,5 +1,5 @@
 -- The terms so far are written.
-use Rattle.std.proofs.Common.{◌≡◌, ◌+◌, ◌*◌, ◌++◌, map, take}
+use Rattle.std.proofs.Common.{◌≡◌, ◌++◌, map, take}
 use Rattle.std.specs.Prelude.{string_bytes, codes}
 use Rattle.sw_logic.specs.Canonical.{joined, term_text}
 use Rattle.sw_text.specs.Printing.{names_in}

@@ -1,4 +1,4 @@
-use Rattle.std.proofs.Common.{ap, sym, ◌∙◌, ◌++◌}
+use Rattle.std.proofs.Common.{ap, ◌∙◌, ◌++◌}
 use Rattle.std.specs.Prelude.{string_bytes, codes}
 use Rattle.sw_logic.specs.Canonical.{binder_text}
 use Rattle.sw_text.proofs.Joined.{written}
