@@ -1,3 +1,4 @@
+pub mod Growing
 pub mod Looking
 pub mod OneParse
 pub mod OneProtocol
@@ -9,3 +10,4 @@ pub mod Sound
 pub mod Viable
 pub mod Answering
 pub mod Stepping
+pub mod WrittenLists
