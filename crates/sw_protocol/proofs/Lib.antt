@@ -11,3 +11,7 @@ pub mod Viable
 pub mod Answering
 pub mod Stepping
 pub mod WrittenLists
+pub mod WrittenNames
+pub mod WrittenDeclarations
+pub mod WrittenTransitions
+pub mod ReadsBack

@@ -1,6 +1,7 @@
 //! Laws about the definitions: each is the contract of a function that does nothing.
 ghost use Rattle.sw_protocol.specs.Answers.{OneParse};
 ghost use Rattle.sw_protocol.specs.Texts.{OneProtocol};
+ghost use Rattle.sw_protocol.specs.ReadsBack.{ReadsBack};
 
 /// A list of words has one answer.
 pub fn one_parse()
@@ -10,4 +11,9 @@ pub fn one_parse()
 /// A text has one answer, but for want of memory.
 pub fn one_protocol()
     ensures { OneProtocol }
+{}
+
+/// The canonical text of a protocol that a text has reads back as this protocol.
+pub fn reads_back()
+    ensures { ReadsBack }
 {}

@@ -70,7 +70,7 @@ pub spelled_stands : (a : Around) (sig : Signature) → Extends a.signature sig 
 spelled_stands a sig later scope base e i ms rest x h good fine T at post c k w here b =
     tidy_stands a sig later scope base.iffs base.variables x (formula_tidy a.text h good).0 fine T at post c k w here b
 
-words_are : (T : List ℕ) (ms : List Mark) → AllByRecursion (λ (m : Mark). m.word ≡ word_of T m.word.token) ms → words_in ms ≡ map (word_of T) (map token_of ms)
+pub words_are : (T : List ℕ) (ms : List Mark) → AllByRecursion (λ (m : Mark). m.word ≡ word_of T m.word.token) ms → words_in ms ≡ map (word_of T) (map token_of ms)
 words_are T [] h = refl
 words_are T (m ∷ ms) h = ap (λ (w : Word). w ∷ words_in ms) h.0 ∙ ap (λ (ws : List Word). word_of T m.word.token ∷ ws) (words_are T ms h.1)
 

@@ -27,12 +27,12 @@ use Rattle.sw_text.proofs.SortedTerms.{apart}
 use Rattle.sw_text.proofs.Tidy.{SameBytes, SameTerm, SameTerms, SameBinder, SameBinders, Same, SameRun}
 use Rattle.sw_text.proofs.Measured.{two}
 
-broken_anywhere : (at to : ℕ) (tests : List (Bool × Rule)) → broken at tests ≡ [] → broken to tests ≡ []
+pub broken_anywhere : (at to : ℕ) (tests : List (Bool × Rule)) → broken at tests ≡ [] → broken to tests ≡ []
 broken_anywhere at to [] e = refl
 broken_anywhere at to ((true, rule) ∷ rest) e = cc
 broken_anywhere at to ((false, rule) ∷ rest) e = broken_anywhere at to rest e
 
-none : (xs ys : List Violation) → xs ≡ [] → ys ≡ [] → xs ++ ys ≡ []
+pub none : (xs ys : List Violation) → xs ≡ [] → ys ≡ [] → xs ++ ys ≡ []
 none xs ys d e = ap (λ zs. zs ++ ys) d ∙ e
 
 module _ (a : Around) (T : List ℕ) where
@@ -124,7 +124,7 @@ module _ (a : Around) (T : List ℕ) where
   bound_same : (x y : Binder) → SameBinder a.text T x y → bound b y ≡ bound a x
   bound_same x y h = two (λ (name sort : List ℕ). let v : logic.Binder = record { name = name; sort = number_or_0 (sort_number a sort) } in v) _ _ _ _ (sym h.name) (sym h.sort)
 
-  all_bound_same : {bs cs : List Binder} → SameBinders a.text T bs cs → map (bound b) cs ≡ map (bound a) bs
+  pub all_bound_same : {bs cs : List Binder} → SameBinders a.text T bs cs → map (bound b) cs ≡ map (bound a) bs
   all_bound_same SameBinders.no_binders = refl
   all_bound_same (SameBinders.more_binders {b = x} {c = y} h k) = two (λ (z : logic.Binder) (zs : List logic.Binder). z ∷ zs) _ _ _ _ (bound_same x y h) (all_bound_same k)
 
@@ -141,7 +141,7 @@ module _ (a : Around) (T : List ℕ) where
       (subst (λ name. broken y.name.token.at (name_tests scope name) ≡ []) h.name (broken_anywhere x.name.token.at y.name.token.at (name_tests scope (bytes_at a.text x.name)) both.0))
       (subst (λ sort. broken y.sort.token.at (sort_tests sort) ≡ []) h.sort (broken_anywhere x.sort.token.at y.sort.token.at (sort_tests (bytes_at a.text x.sort)) both.1))
 
-  binders_fine : {bs cs : List Binder} → (scope : Scope) → SameBinders a.text T bs cs → binders_faults a scope bs ≡ [] → binders_faults b scope cs ≡ []
+  pub binders_fine : {bs cs : List Binder} → (scope : Scope) → SameBinders a.text T bs cs → binders_faults a scope bs ≡ [] → binders_faults b scope cs ≡ []
   binders_fine scope SameBinders.no_binders e = refl
   binders_fine scope (SameBinders.more_binders {b = x} {c = y} {bs = bs} {cs = cs} h k) e =
       let both = apart (binder_faults a scope x) (binders_faults a (scope ++ bound a x ∷ []) bs) e in

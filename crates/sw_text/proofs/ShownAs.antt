@@ -171,11 +171,11 @@ module _ (a : Around) (sig : Signature) (later : Extends a.signature sig) where
   abbrev here : Scope → Formula → Shown
   here scope f = shown sig (names_of scope) f
 
-  sort_found : (o : Option ℕ) (name : List ℕ) → sort_number a name ≡ o → is_none o ≡ false → unwrap_or (slice_get sig.sorts (number_or_0 o)) [] ≡ name
+  pub sort_found : (o : Option ℕ) (name : List ℕ) → sort_number a name ≡ o → is_none o ≡ false → unwrap_or (slice_get sig.sorts (number_or_0 o)) [] ≡ name
   sort_found None name e h = cc
   sort_found (Some k) name e h = let f = found (λ (x : List ℕ). x) a.signature.sorts name k e in ap (λ o. unwrap_or o []) (later.sorts k f.0 f.1) ∙ f.2
 
-  binder_is : (scope : Scope) (x : Binder) → binder_faults a scope x ≡ [] → binder_text sig (bound a x) ≡ binder_piece a.text x
+  pub binder_is : (scope : Scope) (x : Binder) → binder_faults a scope x ≡ [] → binder_text sig (bound a x) ≡ binder_piece a.text x
   binder_is scope x e =
       let name = bytes_at a.text x.name in
       let sort = bytes_at a.text x.sort in
