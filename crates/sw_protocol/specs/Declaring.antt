@@ -1,5 +1,5 @@
 -- What declarations make of a protocol, and which rules on names and sorts they break, in text order.
-use Rattle.std.specs.Prelude.{ℕ, Bool, true, false, not, List, [], ◌∷◌, ◌++◌, length, map, Option, Some, None, slice_get, option_and_then}
+use Rattle.std.specs.Prelude.{◌≡◌, ℕ, Bool, true, false, not, List, [], ◌∷◌, ◌++◌, length, map, Option, Some, None, slice_get}
 use Rattle.std.specs.List.{list_any, flat_map}
 use Rattle.std.specs.Str.{bytes_eq}
 use Rattle.sw_logic.specs.declared.syntax.SymbolKind.{SymbolKind}
@@ -14,10 +14,14 @@ use Rattle.sw_text.specs.declared.tree.Tree.{Tree}
 use Rattle.sw_text.specs.declared.names.Place.{Place}
 use Rattle.sw_text.specs.declared.names.Rule.{Rule}
 use Rattle.sw_text.specs.declared.names.Violation.{Violation}
+use Rattle.sw_text.specs.declared.resolve.Resolved.{Resolved}
 use Rattle.sw_text.specs.Names.{Around, bytes_at, sort_number, symbol_number, is_declared, is_none, number_or_0, broken, binders_faults, bound, faults, formula_read}
 use Rattle.sw_protocol.specs.declared.tree.Statement.{Statement}
 use Rattle.sw_protocol.specs.declared.tree.Heading.{Heading}
 use Rattle.sw_protocol.specs.declared.tree.Declaration.{Declaration}
+use Rattle.sw_protocol.specs.declared.draft.Item.{Item}
+use Rattle.sw_protocol.specs.declared.draft.Item.TheVariants as item
+use Rattle.sw_protocol.specs.declared.draft.Draft.{Draft}
 
 abbrev pub empty_protocol : Protocol
 empty_protocol = record { signature = record { sorts = []; symbols = [] }; axioms = []; inits = []; transitions = []; safeties = []; order = [] }
@@ -26,9 +30,9 @@ empty_protocol = record { signature = record { sorts = []; symbols = [] }; axiom
 abbrev pub transition_names : List Transition → List (List ℕ)
 transition_names ts = map (λ (t : Transition). t.name) ts
 
--- what names are read by after these declarations, where a formula stands so
-abbrev pub after : List ℕ → Protocol → Place → Around
-after text p place = record { text = text; signature = p.signature; declared_too = transition_names p.transitions; place = place }
+-- what names are read by after these declarations, outside of axioms and transitions
+abbrev pub after : List ℕ → Protocol → Around
+after text p = record { text = text; signature = p.signature; declared_too = transition_names p.transitions; place = Place.OneState }
 
 -- the same with a further name declared
 abbrev pub knowing : List ℕ → Around → Around
@@ -45,22 +49,32 @@ sort_faults a w = broken w.token.at ((is_none (sort_number a (bytes_at a.text w)
 abbrev pub sorts_faults : Around → List Word → List Violation
 sorts_faults a ws = flat_map (sort_faults a) ws
 
--- there is a symbol and it may not change
+-- there is a symbol of this number, and it may not change
 abbrev pub is_fixed : Option Symbol → Bool
 is_fixed None = false
 is_fixed (Some s) = not s.mutable
 
--- a name after `modifies` stands there before, is no symbol, or is one that may not change
-abbrev pub modified_tests : Around → List (List ℕ) → List ℕ → List (Bool × Rule)
-modified_tests a before name =
-    (list_any (bytes_eq name) before, Rule.Twice)
-    ∷ (is_none (symbol_number a name), Rule.Unknown)
-    ∷ (is_fixed (option_and_then (slice_get a.signature.symbols) (symbol_number a name)), Rule.PostState)
-    ∷ []
+abbrev pub fixed_at : Around → ℕ → Bool
+fixed_at a k = is_fixed (slice_get a.signature.symbols k)
 
-abbrev pub modified_faults : Around → List (List ℕ) → List Word → List Violation
+abbrev pub fixed_by : Around → Option ℕ → Bool
+fixed_by a None = false
+fixed_by a (Some k) = fixed_at a k
+
+abbrev pub is_among : List ℕ → List Word → List ℕ → Bool
+is_among text ws name = list_any (λ w. bytes_eq name (bytes_at text w)) ws
+
+-- a name after `modifies` stands there before, is no symbol, or is one that may not change
+abbrev pub modified_tests : Around → List Word → List ℕ → Option ℕ → List (Bool × Rule)
+modified_tests a before name symbol =
+    (is_among a.text before name, Rule.Twice) ∷ (is_none symbol, Rule.Unknown) ∷ (fixed_by a symbol, Rule.PostState) ∷ []
+
+abbrev pub one_modified_faults : Around → List Word → Word → List Violation
+one_modified_faults a before w = let name = bytes_at a.text w in broken w.token.at (modified_tests a before name (symbol_number a name))
+
+abbrev pub modified_faults : Around → List Word → List Word → List Violation
 modified_faults a before [] = []
-modified_faults a before (w ∷ ws) = let name = bytes_at a.text w in broken w.token.at (modified_tests a before name) ++ modified_faults a (before ++ name ∷ []) ws
+modified_faults a before (w ∷ ws) = one_modified_faults a before w ++ modified_faults a (before ++ w ∷ []) ws
 
 abbrev pub sort_of : Around → Word → ℕ
 sort_of a w = number_or_0 (sort_number a (bytes_at a.text w))
@@ -68,37 +82,65 @@ sort_of a w = number_or_0 (sort_number a (bytes_at a.text w))
 abbrev pub sorts_of : Around → List Word → List ℕ
 sorts_of a ws = map (sort_of a) ws
 
+abbrev pub symbol_of : Around → Word → ℕ
+symbol_of a w = number_or_0 (symbol_number a (bytes_at a.text w))
+
 abbrev pub symbols_of : Around → List Word → List ℕ
-symbols_of a ws = map (λ w. number_or_0 (symbol_number a (bytes_at a.text w))) ws
+symbols_of a ws = map (symbol_of a) ws
 
 abbrev pub place_of : Statement → Place
 place_of Statement.Axiom = Place.Axiom
 place_of Statement.Init = Place.OneState
 place_of Statement.Safety = Place.OneState
 
--- the place of a transition's formula, whose own name is declared before its parameters
-abbrev pub in_transition : List ℕ → Protocol → Heading → Around
-in_transition text p h =
-    let a = after text p Place.OneState in
-    knowing (bytes_at text h.name) (record { text = a.text; signature = a.signature; declared_too = a.declared_too; place = Place.Step (symbols_of a h.modifies) })
+-- the same where a formula stands elsewhere
+abbrev pub standing : Place → Around → Around
+standing place a = record { text = a.text; signature = a.signature; declared_too = a.declared_too; place = place }
 
 abbrev pub params_of : Around → Heading → List logic.Binder
 params_of a h = map (bound a) h.params
 
--- what the name, the parameters and the modified symbols of a transition break
-abbrev pub heading_faults : List ℕ → Protocol → Heading → List Violation
-heading_faults text p h =
-    let a = in_transition text p h in
-    name_faults (after text p Place.OneState) h.name ++ (binders_faults a [] h.params ++ modified_faults a [] h.modifies)
+-- what the formula of a transition is read by
+abbrev pub in_step : Around → Heading → Around
+in_step a h = standing (Place.Step (symbols_of a h.modifies)) a
 
--- what a declaration after these breaks
-abbrev pub declaration_faults : List ℕ → Protocol → Declaration → List Violation
-declaration_faults text p (Declaration.Sort n) = name_faults (after text p Place.OneState) n
-declaration_faults text p (Declaration.Relation mutable n ss) = let a = after text p Place.OneState in name_faults a n ++ sorts_faults a ss
-declaration_faults text p (Declaration.Constant mutable n s) = let a = after text p Place.OneState in name_faults a n ++ sort_faults a s
-declaration_faults text p (Declaration.Function n ss s) = let a = after text p Place.OneState in name_faults a n ++ (sorts_faults a ss ++ sort_faults a s)
-declaration_faults text p (Declaration.Stated kind x) = faults (after text p (place_of kind)) x []
-declaration_faults text p (Declaration.Transition h x) = let a = in_transition text p h in heading_faults text p h ++ faults a x (params_of a h)
+-- what the parameters, the modified symbols and the formula of a transition break, whose own name is declared
+abbrev pub named_faults : Around → Heading → Tree → List Violation
+named_faults a h x = binders_faults a [] h.params ++ (modified_faults a [] h.modifies ++ faults (in_step a h) x (params_of a h))
+
+abbrev pub named_transition : Around → Heading → Tree → Transition
+named_transition a h x = record { name = bytes_at a.text h.name; params = params_of a h; modifies = symbols_of a h.modifies; formula = formula_read (in_step a h) x (params_of a h) }
+
+-- what a transition's formula and parameters are read by: its own name is declared before them
+abbrev pub with_own_name : Around → Heading → Around
+with_own_name a h = knowing (bytes_at a.text h.name) a
+
+-- what a declaration breaks that stands where names are read so
+abbrev pub declaration_faults : Around → Declaration → List Violation
+declaration_faults a (Declaration.Sort n) = name_faults a n
+declaration_faults a (Declaration.Relation mutable n ss) = name_faults a n ++ sorts_faults a ss
+declaration_faults a (Declaration.Constant mutable n s) = name_faults a n ++ sort_faults a s
+declaration_faults a (Declaration.Function n ss s) = name_faults a n ++ (sorts_faults a ss ++ sort_faults a s)
+declaration_faults a (Declaration.Stated kind x) = faults (standing (place_of kind) a) x []
+declaration_faults a (Declaration.Transition h x) = name_faults a h.name ++ named_faults (with_own_name a h) h x
+
+abbrev pub relation_of : Around → Bool → Word → List Word → Symbol
+relation_of a mutable n ss = record { name = bytes_at a.text n; kind = SymbolKind.Relation; args = sorts_of a ss; gives = 0; mutable = mutable }
+
+abbrev pub constant_of : Around → Bool → Word → Word → Symbol
+constant_of a mutable n s = record { name = bytes_at a.text n; kind = SymbolKind.Constant; args = []; gives = sort_of a s; mutable = mutable }
+
+abbrev pub function_of : Around → Word → List Word → Word → Symbol
+function_of a n ss s = record { name = bytes_at a.text n; kind = SymbolKind.Function; args = sorts_of a ss; gives = sort_of a s; mutable = false }
+
+-- what a declaration adds
+abbrev pub item_of : Around → Declaration → Item
+item_of a (Declaration.Sort n) = item.Sort (bytes_at a.text n)
+item_of a (Declaration.Relation mutable n ss) = item.Symbol (relation_of a mutable n ss)
+item_of a (Declaration.Constant mutable n s) = item.Symbol (constant_of a mutable n s)
+item_of a (Declaration.Function n ss s) = item.Symbol (function_of a n ss s)
+item_of a (Declaration.Stated kind x) = item.Formula kind (formula_read (standing (place_of kind) a) x [])
+item_of a (Declaration.Transition h x) = item.Transition (named_transition (with_own_name a h) h x)
 
 abbrev pub with_sort : Protocol → List ℕ → Protocol
 with_sort p name = record p {
@@ -120,27 +162,40 @@ with_statement p Statement.Safety f = record p { safeties = p.safeties ++ f ∷ 
 abbrev pub with_transition : Protocol → Transition → Protocol
 with_transition p t = record p { transitions = p.transitions ++ t ∷ []; order = p.order ++ Decl.Transition (length p.transitions) ∷ [] }
 
+abbrev pub with_item : Protocol → Item → Protocol
+with_item p (Item.Sort name) = with_sort p name
+with_item p (Item.Symbol s) = with_symbol p s
+with_item p (Item.Formula kind f) = with_statement p kind f
+with_item p (Item.Transition t) = with_transition p t
+
 -- the protocol with one declaration more
 abbrev pub declared : List ℕ → Protocol → Declaration → Protocol
-declared text p (Declaration.Sort n) = with_sort p (bytes_at text n)
-declared text p (Declaration.Relation mutable n ss) =
-    with_symbol p (record { name = bytes_at text n; kind = SymbolKind.Relation; args = sorts_of (after text p Place.OneState) ss; gives = 0; mutable = mutable })
-declared text p (Declaration.Constant mutable n s) =
-    with_symbol p (record { name = bytes_at text n; kind = SymbolKind.Constant; args = []; gives = sort_of (after text p Place.OneState) s; mutable = mutable })
-declared text p (Declaration.Function n ss s) =
-    let a = after text p Place.OneState in
-    with_symbol p (record { name = bytes_at text n; kind = SymbolKind.Function; args = sorts_of a ss; gives = sort_of a s; mutable = false })
-declared text p (Declaration.Stated kind x) = with_statement p kind (formula_read (after text p (place_of kind)) x [])
-declared text p (Declaration.Transition h x) =
-    let a = in_transition text p h in
-    with_transition p (record { name = bytes_at text h.name; params = params_of a h; modifies = symbols_of a h.modifies; formula = formula_read a x (params_of a h) })
+declared text p d = with_item p (item_of (after text p) d)
 
 -- all rules that declarations break, one after another, each after those before it
 abbrev pub all_faults : List ℕ → Protocol → List Declaration → List Violation
 all_faults text p [] = []
-all_faults text p (d ∷ ds) = declaration_faults text p d ++ all_faults text (declared text p d) ds
+all_faults text p (d ∷ ds) = declaration_faults (after text p) d ++ all_faults text (declared text p d) ds
 
 -- the protocol with all of the declarations
 abbrev pub all_declared : List ℕ → Protocol → List Declaration → Protocol
 all_declared text p [] = p
 all_declared text p (d ∷ ds) = all_declared text (declared text p d) ds
+
+-- the names of the transitions are kept beside the protocol
+abbrev pub Knows : Draft → Type 0
+Knows d = d.transitions ≡ transition_names d.protocol.transitions
+
+-- what names are read by after what is declared so far
+abbrev pub reading : List ℕ → Draft → Place → Around
+reading text d place = record { text = text; signature = d.protocol.signature; declared_too = d.transitions; place = place }
+
+-- the first rule that is broken, if any is
+abbrev pub IsFirst : List Violation → Option Violation → Type 0
+IsFirst all None = all ≡ []
+IsFirst all (Some v) = (rest : List Violation) × (all ≡ v ∷ rest)
+
+-- the value, and the draft as before, where nothing is broken; or the first rule that is
+abbrev pub FindsKept : {X : Type 0} → List Violation → X → Draft → Draft → Resolved X → Type 0
+FindsKept all x old new (Resolved.Found y) = (all ≡ []) × (y ≡ x) × (new ≡ old)
+FindsKept all x old new (Resolved.Broken v) = (rest : List Violation) × (all ≡ v ∷ rest)

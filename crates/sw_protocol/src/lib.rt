@@ -1,7 +1,14 @@
 //! Protocols as text: which words spell one, what their names stand for, and canonical text.
 #![tactic(auto)]
 
+pub mod declaring;
+pub mod draft;
+pub mod laws;
+pub mod machine;
 pub mod parsing;
+#[cfg(test)]
+mod parsing_tests;
+pub mod phases;
 pub mod printing;
 pub mod texts;
 pub mod tree;

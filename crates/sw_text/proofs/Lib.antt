@@ -10,4 +10,15 @@ pub mod Breaking
 pub mod Folding
 pub mod SortedTerms
 pub mod WellSorted
+pub mod FewVariables
 pub mod OneFormula
+pub mod Joined
+pub mod Spacing
+pub mod Tidy
+pub mod SpeltTerms
+pub mod Measured
+pub mod SpeltForms
+pub mod SameMeaning
+pub mod Tidied
+pub mod ShownAs
+pub mod ReadsBack

@@ -29,7 +29,7 @@ apart [] ys e = (refl, e)
 apart (x ∷ xs) ys e = cc
 
 -- no test holds
-abbrev Passed : List (Bool × Rule) → Type 0
+abbrev pub Passed : List (Bool × Rule) → Type 0
 Passed [] = Unit {0}
 Passed ((b, rule) ∷ rest) = (b ≡ false) × Passed rest
 

@@ -10,3 +10,5 @@ pub mod Laws
 pub mod Names
 pub mod Resolving
 pub mod Texts
+pub mod Printing
+pub mod ReadsBack

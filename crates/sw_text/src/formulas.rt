@@ -60,7 +60,7 @@ fn iff(alloc: Global, left: Formula, right: Formula) -> Result<Formula, AllocErr
 }
 
 /// The bytes as a name.
-fn name_of(alloc: Global, bytes: &[u8]) -> Result<Name, AllocError>
+pub fn name_of(alloc: Global, bytes: &[u8]) -> Result<Name, AllocError>
     ensures { IfOk result (λ name. name ≡ bytes.now) }
 {
     match str::from_utf8(bytes) {
@@ -195,8 +195,8 @@ impl Names<'_> {
         Ok(None)
     }
 
-    /// Brings the variables into scope, in order.
-    fn bind_all(
+    /// Brings the variables into scope, in order, or tells the first rule that their binders break.
+    pub fn bind_all(
         &self,
         alloc: Global,
         scope: &mut Vec<sw_logic::Binder>,

@@ -1,6 +1,7 @@
 //! Laws about the definitions: each is the contract of a function that does nothing.
-ghost use Rattle.sw_text.specs.Laws.{OneAnswer, ReadIsWellSorted};
+ghost use Rattle.sw_text.specs.Laws.{OneAnswer, ReadIsWellSorted, ReadBindsFew};
 ghost use Rattle.sw_text.specs.Texts.{OneFormula};
+ghost use Rattle.sw_text.specs.ReadsBack.{ReadsBack};
 
 /// A list of words has one answer.
 pub fn one_answer()
@@ -15,4 +16,14 @@ pub fn read_is_well_sorted()
 /// A text has one answer, but for want of memory.
 pub fn one_formula()
     ensures { OneFormula }
+{}
+
+/// What is read has at most 32 variables in scope, with those around it.
+pub fn read_binds_few()
+    ensures { ReadBindsFew }
+{}
+
+/// The canonical text of a formula that a text has reads back as this formula.
+pub fn reads_back()
+    ensures { ReadsBack }
 {}

@@ -8,6 +8,7 @@ pub mod limits;
 pub mod machine;
 pub mod measures;
 pub mod names;
+pub mod printing;
 pub mod reader;
 pub mod resolve;
 pub mod stack;
@@ -20,6 +21,7 @@ pub mod tree;
 pub mod words;
 
 pub use names::{Names, Place, Rule, Violation};
+pub use printing::{print_formula, push_binders, push_formula};
 pub use reader::{Around, Read, read_tree};
 pub use resolve::Resolved;
 pub use texts::{TextError, read_formula};

@@ -2,7 +2,7 @@
 ghost use Rattle.std.specs.Prelude.{◌≡◌, Some, IfOk};
 ghost use Rattle.std.specs.List.{list_any, position};
 ghost use Rattle.std.specs.Str.{bytes_eq};
-ghost use Rattle.sw_text.specs.Names.{sort_number, variable_number, is_declared, head_of, head_tests, head_sorts, head_gives, is_axiom, reads_post, is_listed, value_mismatch, mismatch, variable_tests, symbol_tests};
+ghost use Rattle.sw_text.specs.Names.{sort_number, symbol_number, variable_number, is_declared, head_of, head_tests, head_sorts, head_gives, is_axiom, reads_post, is_listed, value_mismatch, mismatch, variable_tests, symbol_tests};
 ghost use Rattle.sw_text.specs.Resolving.{around, first_rule};
 
 use crate::words::{Word, bytes_of};
@@ -218,6 +218,13 @@ impl Names<'_> {
         number(sort_place(self.signature.sorts.as_slice(), name))
     }
 
+    /// The number of the symbol of this name.
+    pub fn symbol_number(&self, name: &[u8]) -> Result<Option<u32>, AllocError>
+        ensures { IfOk result (λ n. n ≡ symbol_number (around self.now) name.now) }
+    {
+        number(symbol_place(self.signature.symbols.as_slice(), name))
+    }
+
     /// Whether a sort, a symbol or another thing of this name is declared.
     pub fn is_declared(&self, name: &[u8]) -> bool
         ensures { result ≡ is_declared (around self.now) name.now }
@@ -235,7 +242,7 @@ impl Names<'_> {
         if let Some(variable) = number(variable_place(scope, name))? {
             return Ok(Some(Head::Variable(variable)));
         }
-        match number(symbol_place(self.signature.symbols.as_slice(), name))? {
+        match self.symbol_number(name)? {
             Some(symbol) => Ok(Some(Head::Symbol(symbol))),
             None => Ok(None),
         }

@@ -1,5 +1,5 @@
 //! What whole texts have: a formula, or the first fault and its place.
-use crate::{Names, Place, TextError, Violation, read_formula};
+use crate::{Names, Place, TextError, Violation, print_formula, read_formula};
 use sqlite_items::Items;
 use std::alloc::{AllocError, Global};
 use std::process::Abort;
@@ -155,5 +155,72 @@ fn a_text_is_one_formula_and_no_more(rt: HostRuntime) -> Result<(), Fail> {
         ("p'(_1)", "PostState at 0"),
     ];
     breaks(&rt, rt.alloc(), &Place::OneState, rows.as_slice())?;
+    Ok(())
+}
+
+// The canonical text, or an empty one where the text is refused; with `_1` in scope, in a step that
+// modifies p.
+fn printed(alloc: Global, text: &str) -> Result<String, AllocError> {
+    let signature = signature(alloc)?;
+    let place = Place::Step(Items::from_slice(alloc, &[1])?);
+    let names = Names {
+        text: text.as_bytes(),
+        signature: &signature,
+        declared_too: &[],
+        place: &place,
+    };
+    match read_formula(alloc, &names, variables(alloc)?) {
+        Ok(formula) => { print_formula(alloc, &signature, variables(alloc)?.as_slice(), &formula) }
+        Err(_) => Ok(String::new(alloc)),
+    }
+}
+
+fn prints(rt: &impl Abort, alloc: Global, rows: &[(&str, &str)]) -> Result<(), AllocError> {
+    for (text, wanted) in rows {
+        let found = printed(alloc, text)?;
+        assert!(rt; found.as_str() == *wanted, "{text}: {found}");
+    }
+    Ok(())
+}
+
+#[test]
+fn canonical_text_has_one_form(rt: HostRuntime) -> Result<(), Fail> {
+    let rows = [
+        ("true&false", "true & false"),
+        ("p' ( _1 )", "p'(_1)"),
+        ("q(d,_1)|a", "q(d, _1) | a"),
+        ("(((a)))", "a"),
+        ("f(d)=c", "f(d) = c"),
+        ("f ( d )!=c", "f(d) != c"),
+        ("!!a", "!!a"),
+        ("!(d = _1)", "d != _1"),
+        ("!d != _1", "!d != _1"),
+        ("!d = _1", "d != _1"),
+        ("a # a comment\n-> a", "a -> a"),
+    ];
+    prints(&rt, rt.alloc(), rows.as_slice())?;
+    Ok(())
+}
+
+#[test]
+fn operands_stand_in_brackets(rt: HostRuntime) -> Result<(), Fail> {
+    let rows = [
+        ("a & a & a", "a & a & a"),
+        ("(a & a) & a", "(a & a) & a"),
+        ("a & a | a", "(a & a) | a"),
+        ("a -> a -> a", "a -> (a -> a)"),
+        ("a <-> !(a | a)", "a <-> !(a | a)"),
+        ("a & forall X: n. p(X) | a", "a & (forall X: n. p(X) | a)"),
+        (
+            "forall X:n,Y:m.exists Z:n.f(Z)=Y&p(X)",
+            "forall X: n, Y: m. exists Z: n. f(Z) = Y & p(X)",
+        ),
+        ("!exists X: n. p(X)", "!(exists X: n. p(X))"),
+        (
+            "(exists X: n. p(X)) -> exists X: n. q(X, _1)",
+            "(exists X: n. p(X)) -> (exists X: n. q(X, _1))",
+        ),
+    ];
+    prints(&rt, rt.alloc(), rows.as_slice())?;
     Ok(())
 }

@@ -1,0 +1,11 @@
+pub mod Looking
+pub mod OneParse
+pub mod OneProtocol
+pub mod Rows
+pub mod Reading
+pub mod Complete
+pub mod Extend
+pub mod Sound
+pub mod Viable
+pub mod Answering
+pub mod Stepping

@@ -1,0 +1,11 @@
+-- Nothing is broken by the names so far.
+use Rattle.std.proofs.Common.{◌≡◌, [], take, drop}
+use Rattle.sw_text.specs.Resolving.{around}
+use Rattle.sw_protocol.specs.Declaring.{modified_faults, symbols_of}
+use Rattle.sw_protocol.proofs.declaring.modified.Given as goal
+
+abbrev pub invariant-loop-i : goal.invariant-loop-i
+invariant-loop-i l = record {
+  faults : modified_faults (around l.names) [] l.words ≡ modified_faults (around l.names) (take l.i l.words) (drop l.i l.words);
+  read : l.symbols ≡ symbols_of (around l.names) (take l.i l.words);
+}
