@@ -14,10 +14,10 @@ use Rattle.sw_meaning.specs.Space.{Template}
 use Rattle.sw_meaning.specs.Small.{IsSmall}
 use Rattle.sw_run.specs.Words.{NamesBy, is_plain, is_served, asks_check}
 use Rattle.sw_run.specs.Refusals.{input_refusal}
-use Rattle.sw_run.specs.Ending.{Change, Answer, Misreads, Reads, Searches, Reports, Prints, IsInput, IsSpelled, IsUnbuilt, IsTooLong, IsUntouched, Allowed, AllowedCheck, refused}
+use Rattle.sw_run.specs.Ending.{Change, Answer, Misreads, Reads, Searches, Reports, Prints, IsInput, IsUnbuilt, IsTooLong, Allowed, AllowedCheck, refused}
 use Rattle.sw_run.specs.Laws.{Tells, LacksMemory, IsRefusedUnread, WordsChoose, InputChooses, SearchChooses, RowsExcludeEachOther}
 use Rattle.sw_run.specs.declared.input.TheConstants.{INPUT_LIMIT}
-use Rattle.sw_run.specs.declared.told.Refusal.TheVariants.{Usage, TooLong, Unbuilt, ReadFault, NoMemory}
+use Rattle.sw_run.specs.declared.told.Refusal.TheVariants.{Usage, TooLong, Unbuilt, ReadFault}
 
 -- ---- words
 

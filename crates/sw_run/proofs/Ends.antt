@@ -1,5 +1,5 @@
 -- How a report and a refusal end a run, where they are written whole and where a sink failed.
-use Rattle.std.specs.Prelude.{◌≡◌, ◌⊎◌, ℕ, List, [], Option, Some, None, Result, Ok, Err, string_bytes}
+use Rattle.std.specs.Prelude.{◌≡◌, ℕ, List, [], Option, Some, None, Result, Ok, Err, string_bytes}
 use Rattle.std.proofs.Common.{refl, sym, ap, subst, append-nil, inl, inr}
 use Rattle.sw_edge.specs.Edge.{Gains}
 use Rattle.sw_run.specs.declared.told.Refusal.{Refusal}

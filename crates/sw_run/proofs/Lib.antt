@@ -3,6 +3,5 @@ pub mod ClassText
 pub mod Commands
 pub mod Ends
 pub mod OneAnswer
-pub mod OneProtocol
 pub mod OneReport
 pub mod Rows

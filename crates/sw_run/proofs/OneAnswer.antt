@@ -1,12 +1,12 @@
 -- The words and the bytes of the input fix the answer, but for want of memory and failed reads.
 use Rattle.std.specs.Prelude.{◌≡◌, ◌⊎◌, ℕ, List, Option, Some, Err}
-use Rattle.std.proofs.Common.{refl, arith, sym, ap, ◌∙◌, subst, inl, inr}
+use Rattle.std.proofs.Common.{sym, ◌∙◌, subst, inl, inr}
 use Rattle.sw_meaning.specs.declared.protocol.Protocol.{Protocol}
 use Rattle.sw_protocol.specs.Texts.{HasProtocol, IsText, OneProtocol}
 use Rattle.sw_words.specs.declared.commands.Command.{Command}
 use Rattle.sw_words.specs.declared.commands.Options.{Options}
 use Rattle.sw_run.specs.Refusals.{input_refusal}
-use Rattle.sw_run.specs.Ending.{Change, Answer, Misreads, Reads, Searches, Prints, Allowed, AllowedCheck, refused, printed}
+use Rattle.sw_run.specs.Ending.{Change, Answer, Misreads, Reads, Searches, Prints, Allowed, AllowedCheck, refused}
 use Rattle.sw_run.specs.Laws.{IsLost, LacksMemory, IsRefusedUnread, OneAnswer}
 use Rattle.sw_run.specs.declared.told.Refusal.{Refusal}
 use Rattle.sw_run.specs.declared.told.Refusal.TheVariants.{Usage, TooLong, Unbuilt, ReadFault}

@@ -1,10 +1,7 @@
 -- What errors and answers of parts are told as, by the rows of the table of causes.
-use Rattle.std.specs.Prelude.{◌≡◌, ◌⊎◌, ℕ, ◌<◌, ◌≤◌, true, false, List, [], Option, Some, None, IfSome, IfErr, Result, Ok, Err, IsErrAnd, IsErrOf, option_map}
+use Rattle.std.specs.Prelude.{◌≡◌, ◌⊎◌, ℕ, true, false, List, [], Option, Some, IfSome, IfErr, Result, Ok, Err, IsErrAnd, option_map}
 use Rattle.std.proofs.Common.{refl, sym, ap, ◌∙◌, subst, inl, inr}
-use Rattle.std.proofs.lemmas.Bool.{cases_lt, false≢true}
-use Rattle.sw_edge.specs.Edge.{Took, Rose}
-use Rattle.sw_edge.specs.declared.transfer.ReadError.{ReadError}
-use Rattle.sw_edge.specs.declared.transfer.ReadError.TheVariants as error
+use Rattle.std.proofs.lemmas.Bool.{false≢true}
 use Rattle.sw_meaning.specs.declared.protocol.Protocol.{Protocol}
 use Rattle.sw_meaning.specs.ProtocolText.{protocol_text}
 use Rattle.sw_meaning.specs.Small.{small_template}
@@ -13,17 +10,14 @@ use Rattle.sw_protocol.specs.Texts.{HasProtocol, answer_of as text_answer}
 use Rattle.sw_words.specs.declared.commands.Command.{Command}
 use Rattle.sw_words.specs.declared.commands.Command.TheVariants.{Synth, Certify, Space, Print, Check, Drill}
 use Rattle.sw_words.specs.declared.commands.Options.{Options}
-use Rattle.sw_words.specs.declared.commands.WordsError.{WordsError}
-use Rattle.sw_words.specs.declared.commands.WordsError.TheVariants as words
-use Rattle.sw_run.specs.Words.{IsAsked, NamesBy, NamesNone, is_plain, is_check, is_served, asks_check}
-use Rattle.sw_run.specs.Ending.{Change, Answer, Misreads, Reads, Searches, Prints, IsInput, IsSpelled, IsUntouched, Allowed, AllowedCheck, refused, change, answer_of}
-use Rattle.sw_run.specs.Refusals.{read_refusal, words_refusal, input_refusal}
+use Rattle.sw_run.specs.Words.{IsAsked, NamesBy, is_plain, is_check, is_served}
+use Rattle.sw_run.specs.Ending.{Change, Answer, Misreads, Reads, Searches, Prints, IsInput, IsSpelled, IsUntouched, Allowed, AllowedCheck, refused, answer_of}
+use Rattle.sw_run.specs.Refusals.{input_refusal}
 use Rattle.sw_run.specs.declared.report.Report.{Report}
 use Rattle.sw_run.specs.declared.told.Refusal.{Refusal}
 use Rattle.sw_run.specs.declared.told.Refusal.TheVariants.{Unbuilt, NoMemory}
 use Rattle.sw_run.specs.declared.words.Asked.{Asked}
-use Rattle.sw_run.specs.declared.words.Asked.TheVariants.{Served, Unserved}
-use Rattle.sw_run.specs.declared.input.TheConstants.{INPUT_LIMIT}
+use Rattle.sw_run.specs.declared.words.Asked.TheVariants.{Served}
 
 -- ---- the input
 

@@ -1,5 +1,5 @@
 use Rattle.sw_run.proofs.OneAnswer.{one_answer}
-use Rattle.sw_run.proofs.OneProtocol.{one_protocol}
+use Rattle.sw_protocol.proofs.OneProtocol.{one_protocol}
 use Rattle.sw_run.proofs.laws.one_answer.Goals as goal
 
 pub returns : goal.returns
