@@ -81,9 +81,11 @@ module _ (A T : List ℕ) (p : Protocol) where
   one_written q at post (IsDeclaration.transition {us = us} {rest = rest} {end_is = end_is} {has_iff = has_iff} {x = x} k e i (IsHeading.heading {bs = bs} {ns = ns} n c new takes changes colon) formula ends) h fine g here =
       let params = good_takes A takes h.1.1 in
       let names = good_modifies A changes params.1 in
-      let good = formula_tidy A formula names.1.1 in
-      (transition_at A T q p (record { name = n.word; params = bs; modifies = ns }) end_is has_iff us (e ∷ rest) x formula names.1.1 (good_end A x e ends good.1.0) at post
-      (new_in A no_loads n new h.1.0) params.0.0 params.0.1 names.0 fine g here, good.1.1)
+      let good = formula_tidy A formula names.1.1 in (
+        transition_at A T q p (record { name = n.word; params = bs; modifies = ns }) end_is has_iff us (e ∷ rest) x formula names.1.1 (good_end A x e ends good.1.0) at post
+            (new_in A no_loads n new h.1.0) params.0.0 params.0.1 names.0 fine g here,
+        good.1.1,
+      )
 
   -- the declarations that are written from a place to the end
   record WrittenAt (q : Protocol) (at : ℕ) : Type 0 where

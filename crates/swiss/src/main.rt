@@ -44,12 +44,7 @@ fn main(rt: HostRuntime) -> ExitCode {
             &mut err,
             &OpenGate,
         ),
-        Err(_) => tell(
-            rt.alloc(),
-            &Err(Refusal::NoMemory),
-            &mut out,
-            &mut err,
-        ),
+        Err(_) => tell(rt.alloc(), &Err(Refusal::NoMemory), &mut out, &mut err),
     };
     ExitCode::from(status)
 }
