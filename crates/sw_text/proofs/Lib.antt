@@ -12,6 +12,7 @@ pub mod SortedTerms
 pub mod WellSorted
 pub mod FewVariables
 pub mod OneFormula
+pub mod Numbered
 pub mod Joined
 pub mod Spacing
 pub mod Tidy

@@ -11,4 +11,5 @@ pub mod Names
 pub mod Resolving
 pub mod Texts
 pub mod Printing
+pub mod Scoped
 pub mod ReadsBack

@@ -11,6 +11,7 @@ pub mod names;
 pub mod printing;
 pub mod reader;
 pub mod resolve;
+pub mod scoped;
 pub mod stack;
 #[cfg(test)]
 mod tests;
@@ -21,9 +22,10 @@ pub mod tree;
 pub mod words;
 
 pub use names::{Names, Place, Rule, Violation};
-pub use printing::{print_formula, push_binders, push_formula};
+pub use printing::{print_named, push_binders, push_formula};
 pub use reader::{Around, Read, read_tree};
 pub use resolve::Resolved;
-pub use texts::{TextError, read_formula};
+pub use scoped::{print_formula, read_formula};
+pub use texts::{TextError, read_named};
 pub use tree::{Binder, TermTree, Tree};
 pub use words::{Keyword, Sign, Word, bytes_of, words_of};

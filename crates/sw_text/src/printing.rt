@@ -349,8 +349,8 @@ pub fn push_formula(
     push_alone(text, signature, &Variables::Free(variables), formula)
 }
 
-/// The canonical text of the formula.
-pub fn print_formula(
+/// The canonical text of the formula, where these variables are in scope, outermost first.
+pub fn print_named(
     alloc: Global,
     signature: &Signature,
     variables: &[Binder],

@@ -1,10 +1,12 @@
 //! What whole texts have: a formula, or the first fault and its place.
-use crate::{Names, Place, TextError, Violation, print_formula, read_formula};
+use crate::{
+    Names, Place, Rule, TextError, Violation, print_formula, print_named, read_formula, read_named,
+};
 use sqlite_items::Items;
 use std::alloc::{AllocError, Global};
 use std::process::Abort;
 use std::test::Fail;
-use sw_logic::{Binder, Name, Signature, Symbol, SymbolKind};
+use sw_logic::{Binder, Name, Scope, Signature, Symbol, SymbolKind};
 
 fn name(alloc: Global, text: &str) -> Result<Name, AllocError> {
     Ok(Name::new(String::from_str(alloc, text)?))
@@ -61,7 +63,7 @@ fn checked(alloc: Global, text: &str, place: &Place) -> Result<String, AllocErro
         declared_too: &[],
         place,
     };
-    match read_formula(alloc, &names, variables(alloc)?) {
+    match read_named(alloc, &names, variables(alloc)?) {
         Ok(_) => String::from_str(alloc, "ok"),
         Err(TextError::BadByte { at }) => format!(in alloc; "BadByte at {at}"),
         Err(TextError::Syntax { at }) => format!(in alloc; "Syntax at {at}"),
@@ -169,8 +171,8 @@ fn printed(alloc: Global, text: &str) -> Result<String, AllocError> {
         declared_too: &[],
         place: &place,
     };
-    match read_formula(alloc, &names, variables(alloc)?) {
-        Ok(formula) => { print_formula(alloc, &signature, variables(alloc)?.as_slice(), &formula) }
+    match read_named(alloc, &names, variables(alloc)?) {
+        Ok(formula) => { print_named(alloc, &signature, variables(alloc)?.as_slice(), &formula) }
         Err(_) => Ok(String::new(alloc)),
     }
 }
@@ -222,5 +224,39 @@ fn operands_stand_in_brackets(rt: HostRuntime) -> Result<(), Fail> {
         ),
     ];
     prints(&rt, rt.alloc(), rows.as_slice())?;
+    Ok(())
+}
+
+#[test]
+fn variables_of_a_scope_are_named_by_their_number(rt: HostRuntime) -> Result<(), Fail> {
+    let alloc = rt.alloc();
+    let signature = signature(alloc)?;
+    let mut sorts = Items::new(alloc);
+    sorts.push(0)?;
+    sorts.push(0)?;
+    let scope = Scope { sorts, post: true };
+    let text = "forall X: n. q(_1, X) -> _2 != X & p'(_2)";
+    let Ok(formula) = read_formula(alloc, &signature, &scope, text.as_bytes()) else {
+        return Err(Fail::from("a formula"));
+    };
+    let printed = print_formula(alloc, &signature, &scope, &formula)?;
+    assert_eq!(rt;
+        printed.as_str(),
+        "forall X: n. q(_1, X) -> (_2 != X & p'(_2))"
+    );
+    let plain = Scope {
+        sorts: Items::new(alloc),
+        post: false,
+    };
+    let refused = read_formula(alloc, &signature, &plain, b"p'(_1)");
+    assert!(rt;
+        matches!(
+            refused,
+            Err(TextError::Broken(Violation {
+                rule: Rule::PostState,
+                at: 0
+            }))
+        )
+    );
     Ok(())
 }

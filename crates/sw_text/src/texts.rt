@@ -87,8 +87,8 @@ fn outcome(
     }
 }
 
-/// The formula that the whole text is, with these variables in scope, outermost first.
-pub fn read_formula(
+/// The formula that the whole text is, by these names, with these variables in scope, outermost first.
+pub fn read_named(
     alloc: Global,
     names: &Names<'_>,
     variables: Vec<Binder>,

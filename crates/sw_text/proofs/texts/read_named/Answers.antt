@@ -5,7 +5,7 @@ use Rattle.sw_text.specs.Answers.{IsAnswer}
 use Rattle.sw_text.specs.Resolving.{around}
 use Rattle.sw_text.specs.Texts.{HasFormula, base_in, outcome, answer_of}
 use Rattle.sw_text.proofs.OneFormula.{has_bad, has_outcome, each_outcome, no_other, sorted}
-use Rattle.sw_text.proofs.texts.read_formula.Goals as goal
+use Rattle.sw_text.proofs.texts.read_named.Goals as goal
 
 pub returns-in-Err-BadByte-clause-has : goal.returns-in-Err-BadByte-clause-has
 returns-in-Err-BadByte-clause-has c =
