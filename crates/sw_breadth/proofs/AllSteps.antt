@@ -11,11 +11,11 @@ use Rattle.sw_logic.specs.declared.syntax.Formula.{Formula}
 use Rattle.sw_logic.specs.declared.structure.Table.{Table}
 use Rattle.sw_logic.specs.declared.structure.Table.TheVariants.{Bits}
 use Rattle.sw_logic.specs.declared.structure.Structure.{Structure}
-use Rattle.sw_logic.specs.Truth.{truth, world, AreValues}
+use Rattle.sw_logic.specs.Truth.{AreTrueIn, truth, world, AreValues}
 use Rattle.sw_logic.specs.Fits.{fits, FitsPair, AgreeOn}
 use Rattle.sw_meaning.specs.declared.protocol.Protocol.{Protocol}
 use Rattle.sw_meaning.specs.declared.protocol.Transition.{Transition}
-use Rattle.sw_meaning.specs.Runs.{AreTrueIn, Start, Step}
+use Rattle.sw_meaning.specs.Runs.{Start, Step}
 use Rattle.sw_meaning.specs.Small.{IsSmall, IsSwitch, IsFlatTransition}
 use Rattle.sw_breadth.specs.States.{structure_of}
 use Rattle.sw_breadth.specs.Steps.{same_bit, rest_stays, fires, steps_to, all_true}

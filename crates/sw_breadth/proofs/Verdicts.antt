@@ -5,7 +5,8 @@ use Rattle.std.proofs.lemmas.Bool.{false≢true}
 use Rattle.sw_logic.specs.declared.syntax.Formula.{Formula}
 use Rattle.sw_logic.specs.declared.structure.Structure.{Structure}
 use Rattle.sw_meaning.specs.declared.protocol.Protocol.{Protocol}
-use Rattle.sw_meaning.specs.Runs.{AreTrueIn, Start}
+use Rattle.sw_logic.specs.Truth.{AreTrueIn}
+use Rattle.sw_meaning.specs.Runs.{Start}
 use Rattle.sw_meaning.specs.Small.{IsSmall}
 use Rattle.sw_meaning.specs.Verdict.{Word, Verdict}
 use Rattle.sw_breadth.specs.States.{states_of}

@@ -2,5 +2,5 @@ mod Counting
 mod Matching
 pub mod Places
 mod Quantifiers
-mod Ranges
-mod Steps
+pub mod Ranges
+pub mod Steps

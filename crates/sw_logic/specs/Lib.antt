@@ -1,5 +1,9 @@
 pub mod Canonical
 pub mod Fits
 pub mod InScope
+pub mod Queries
+pub mod Signatures
 pub mod Sorted
+pub mod Strata
+pub mod Terms
 pub mod Truth

@@ -1,6 +1,6 @@
 -- The value of a term and the truth of a formula in finite structures, by recursion.
 use Rattle.std.specs.Prelude.{ℕ, zero, suc, ◌+◌, ◌*◌, ◌<◌, ◌↔◌, Bool, true, false, ◌&&◌, ◌||◌, not, ◌==◌, List, [], ◌∷◌, ◌++◌, map, Option, Some, None, unwrap_or, slice_index, slice_get, length, max, IsTrue, if◌then◌else◌}
-use Rattle.std.specs.List.{list_all, list_any}
+use Rattle.std.specs.List.{list_all, list_any, AllByRecursion}
 use Rattle.sw_logic.specs.declared.syntax.Symbol.{Symbol}
 use Rattle.sw_logic.specs.declared.syntax.Signature.{Signature}
 use Rattle.sw_logic.specs.declared.syntax.Binder.{Binder}
@@ -140,6 +140,10 @@ binds = fold-Formula ℕ binds_step
 -- a closed formula is true in a structure, and on a pair of structures with these parameters
 abbrev pub IsTrueIn : Signature → Structure → Formula → Type 0
 IsTrueIn sig s f = IsTrue (truth (world sig s s) f [])
+
+-- every one of the closed formulas is true in the structure
+abbrev pub AreTrueIn : Signature → Structure → List Formula → Type 0
+AreTrueIn sig s fs = AllByRecursion (IsTrueIn sig s) fs
 
 abbrev pub IsTrueOn : Signature → Pair → List ℕ → Formula → Type 0
 IsTrueOn sig p arguments f = IsTrue (truth (world sig p.before p.after) f arguments)

@@ -6,13 +6,15 @@ use crate::syntax::{Binder, Formula, Name, Term};
 use sqlite_items::{Boxed, Items};
 use std::alloc::{AllocError, Global};
 
-fn copy_name(alloc: Global, name: &Name) -> Result<Name, AllocError>
+/// A name equal to the one that is passed.
+pub fn copy_name(alloc: Global, name: &Name) -> Result<Name, AllocError>
     ensures { IfOk result (λ n. n ≡ name.now) }
 {
     Ok(Name::new(String::from_str(alloc, name.as_str())?))
 }
 
-fn copy_binders(alloc: Global, binders: &[Binder]) -> Result<Items<Binder>, AllocError>
+/// Binders equal to those that are passed.
+pub fn copy_binders(alloc: Global, binders: &[Binder]) -> Result<Items<Binder>, AllocError>
     ensures { IfOk result (λ bs. bs ≡ binders.now) }
 {
     let mut copies = Items::new(alloc);
@@ -25,8 +27,9 @@ fn copy_binders(alloc: Global, binders: &[Binder]) -> Result<Items<Binder>, Allo
     Ok(copies)
 }
 
+/// A term equal to the one that is passed.
 #[cycle(terms)]
-fn copy_term(alloc: Global, term: &Term) -> Result<Term, AllocError>
+pub fn copy_term(alloc: Global, term: &Term) -> Result<Term, AllocError>
     ensures { IfOk result (λ t. t ≡ term.now) }
 {
     match term {
@@ -39,8 +42,9 @@ fn copy_term(alloc: Global, term: &Term) -> Result<Term, AllocError>
     }
 }
 
+/// Terms equal to those that are passed.
 #[cycle(terms)]
-fn copy_terms(alloc: Global, terms: &[Term]) -> Result<Items<Term>, AllocError>
+pub fn copy_terms(alloc: Global, terms: &[Term]) -> Result<Items<Term>, AllocError>
     ensures { IfOk result (λ ts. ts ≡ terms.now) }
 {
     let mut copies = Items::new(alloc);

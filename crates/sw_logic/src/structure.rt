@@ -3,7 +3,7 @@ use sqlite_items::Items;
 
 /// What a symbol is in a structure: a relation's bits, a constant's value or a function's values.
 /// Tuples are in lexicographic order.
-#[derive(Debug, Drop)]
+#[derive(Drop)]
 pub enum Table {
     Bits(Items<bool>),
     Value(u32),
@@ -11,14 +11,14 @@ pub enum Table {
 }
 
 /// A size for each sort and a table for each symbol, in the signature's order.
-#[derive(Debug, Drop)]
+#[derive(Drop)]
 pub struct Structure {
     pub sizes: Items<u32>,
     pub tables: Items<Table>,
 }
 
 /// Two structures: plain symbols read `before` and primed ones `after`.
-#[derive(Debug, Drop)]
+#[derive(Drop)]
 pub struct Pair {
     pub before: Structure,
     pub after: Structure,

@@ -5,7 +5,7 @@ use sqlite_items::{Boxed, Items};
 use std::marker::Model;
 
 /// A name as it is written. Contracts see its bytes.
-#[derive(Debug, Drop)]
+#[derive(Drop)]
 pub struct Name {
     text: String,
 }
@@ -32,7 +32,7 @@ impl Name {
     }
 }
 
-#[derive(Clone, Copy, Debug, PartialEq, Eq)]
+#[derive(Clone, Copy, PartialEq, Eq)]
 pub enum SymbolKind {
     Relation,
     Constant,
@@ -41,7 +41,7 @@ pub enum SymbolKind {
 
 /// A symbol. Sorts are numbered by their place in the signature; `gives` is the sort of the value,
 /// and 0 for a relation.
-#[derive(Debug, Drop)]
+#[derive(Drop)]
 pub struct Symbol {
     pub name: Name,
     pub kind: SymbolKind,
@@ -50,7 +50,7 @@ pub struct Symbol {
     pub mutable: bool,
 }
 
-#[derive(Debug, Drop)]
+#[derive(Drop)]
 pub struct Signature {
     pub sorts: Items<Name>,
     pub symbols: Items<Symbol>,
@@ -58,7 +58,7 @@ pub struct Signature {
 
 /// A variable by its place in the scope, outermost first, or a symbol by its place in the
 /// signature. A `post` symbol is a primed one.
-#[derive(Debug, Drop)]
+#[derive(Drop)]
 pub enum Term {
     Variable(u32),
     Apply {
@@ -68,14 +68,14 @@ pub enum Term {
     },
 }
 
-#[derive(Debug, Drop)]
+#[derive(Drop)]
 pub struct Binder {
     pub name: Name,
     pub sort: u32,
 }
 
 /// A formula. Binders take the places after those of the variables in scope, in their order.
-#[derive(Debug, Drop)]
+#[derive(Drop)]
 pub enum Formula {
     True,
     False,
@@ -95,7 +95,7 @@ pub enum Formula {
 }
 
 /// An edge between two sorts.
-#[derive(Clone, Copy, Debug, PartialEq, Eq)]
+#[derive(Clone, Copy, PartialEq, Eq)]
 pub struct Edge {
     pub from: u32,
     pub to: u32,

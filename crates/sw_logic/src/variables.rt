@@ -8,7 +8,7 @@ use std::marker::Model;
 pub const VARIABLES: usize = 32;
 
 /// The values of the variables in scope, outermost first. Contracts see their list.
-#[derive(Debug, Drop)]
+#[derive(Drop)]
 pub struct Env {
     values: [u32; VARIABLES],
     len: u32,
@@ -83,7 +83,7 @@ impl Env {
 }
 
 /// The sorts of the variables in scope, outermost first, and whether post symbols may be read.
-#[derive(Debug, Drop)]
+#[derive(Drop)]
 pub struct Scope {
     pub sorts: Items<u32>,
     pub post: bool,

@@ -5,9 +5,10 @@ use Rattle.std.proofs.Common.{subst, sym}
 use Rattle.sw_logic.specs.declared.syntax.Formula.{Formula}
 use Rattle.sw_logic.specs.declared.structure.Structure.{Structure}
 use Rattle.sw_logic.specs.Fits.{fits}
+use Rattle.sw_logic.specs.Truth.{AreTrueIn}
 use Rattle.sw_meaning.specs.declared.protocol.Protocol.{Protocol}
-use Rattle.sw_meaning.specs.Runs.{AreTrueIn}
-use Rattle.sw_meaning.specs.Space.{Template, InSpaceOf}
+use Rattle.sw_meaning.specs.declared.template.Template.{Template}
+use Rattle.sw_meaning.specs.Space.{InSpaceOf}
 use Rattle.sw_meaning.specs.Inductive.{EarnedAfter, Closed, Follows, Inductive}
 use Rattle.sw_meaning.specs.Verdict.{Word, Verdict, SafeBy, NotSafeBy, Joins}
 use Rattle.sw_meaning.specs.Laws.{SameWord, ListsHaveOneMeaning}

@@ -3,11 +3,11 @@ use Rattle.std.specs.Prelude.{List, [], ◌∷◌, ◌++◌, Option}
 use Rattle.std.proofs.Common.{subst}
 use Rattle.sw_logic.specs.declared.syntax.Formula.{Formula}
 use Rattle.sw_logic.specs.declared.structure.Structure.{Structure}
-use Rattle.sw_logic.specs.Truth.{IsTrueIn}
+use Rattle.sw_logic.specs.Truth.{AreTrueIn, IsTrueIn}
 use Rattle.sw_meaning.specs.declared.protocol.Protocol.{Protocol}
-use Rattle.sw_meaning.specs.Runs.{AreTrueIn, Reached}
+use Rattle.sw_meaning.specs.Runs.{Reached}
 use Rattle.sw_meaning.specs.Runs.Reached.{start, step}
-use Rattle.sw_meaning.specs.Space.{Template}
+use Rattle.sw_meaning.specs.declared.template.Template.{Template}
 use Rattle.sw_meaning.specs.Inductive.{EarnedAfter, Inductive}
 use Rattle.sw_meaning.specs.Verdict.{Word, Verdict, SafeBy, NotSafeBy, Joins}
 use Rattle.sw_meaning.specs.Laws.{IsSafe, SafeMeansSafe}

@@ -10,7 +10,8 @@ use Rattle.sw_logic.specs.declared.syntax.Term.TheVariants.{Variable, Apply}
 use Rattle.sw_logic.specs.declared.syntax.Formula.{Formula}
 use Rattle.sw_logic.specs.declared.syntax.Formula.TheVariants.{False, Holds, Equal, Not}
 use Rattle.sw_logic.specs.Truth.{greatest}
-use Rattle.sw_meaning.specs.Space.{Template, depth_of, template_formula}
+use Rattle.sw_meaning.specs.declared.template.Template.{Template}
+use Rattle.sw_meaning.specs.Space.{depth_of, template_formula}
 
 -- the sorts of the template's variables
 abbrev pub scope_of : Template → List ℕ
@@ -68,8 +69,12 @@ atoms sig t =
 abbrev pub both_signs : Formula → List Formula
 both_signs atom = atom ∷ Not atom ∷ []
 
+-- the literals of atoms: each atom and its negation
+abbrev pub signed : List Formula → List Formula
+signed atoms = flat_map both_signs atoms
+
 abbrev pub literals : Signature → Template → List Formula
-literals sig t = flat_map both_signs (atoms sig t)
+literals sig t = signed (atoms sig t)
 
 -- the lists of n of the elements in their order, in lexicographic order of places
 abbrev pub choices : {X : Type 0} → ℕ → List X → List (List X)
@@ -77,10 +82,12 @@ choices zero xs = [] ∷ []
 choices (suc n) [] = []
 choices (suc n) (x ∷ xs) = map (λ chosen. x ∷ chosen) (choices n xs) ++ choices (suc n) xs
 
--- the lists of literals' numbers that make a cube, by length, then lexicographically
+-- over so many literals, the lists of literals' numbers that make a cube, by length, then lexicographically
+abbrev pub cubes_of : ℕ → Template → List (List ℕ)
+cubes_of count t = flat_map (λ n. choices n (range_with_len 0 count)) (range_with_len 1 (if t.depth == 1 then 1 else t.literals))
+
 abbrev pub cubes : Signature → Template → List (List ℕ)
-cubes sig t =
-    flat_map (λ n. choices n (range_with_len 0 (length (literals sig t)))) (range_with_len 1 (if t.depth == 1 then 1 else t.literals))
+cubes sig t = cubes_of (length (literals sig t)) t
 
 -- the increasing lists of the cubes from a number on that have n literals in all, in lexicographic order
 abbrev pub bodies_from : ℕ → List (List ℕ) → ℕ → List (List ℕ)
@@ -91,20 +98,34 @@ bodies_from at (cube ∷ rest) (suc n) =
     (if nat_le (length cube) (suc n) then map (λ body. at ∷ body) (bodies_from (at + 1) rest (suc n - length cube)) else [])
     ++ bodies_from (at + 1) rest (suc n)
 
--- the classes in candidate order
-abbrev pub classes : Signature → Template → List (List ℕ)
-classes sig t = flat_map (bodies_from 0 (cubes sig t)) (range_with_len 1 t.literals)
+-- the classes over cubes, of at most so many literals, in candidate order
+abbrev pub classes_of : ℕ → List (List ℕ) → List (List ℕ)
+classes_of most cubes = flat_map (bodies_from 0 cubes) (range_with_len 1 most)
 
--- the formulas that numbers stand for
-abbrev pub literals_at : Signature → Template → List ℕ → List Formula
-literals_at sig t cube = map (λ n. unwrap_or (slice_get (literals sig t) n) False) cube
+abbrev pub classes : Signature → Template → List (List ℕ)
+classes sig t = classes_of t.literals (cubes sig t)
+
+-- the formulas of a cube's literals
+abbrev pub cube_formulas : List Formula → List (List ℕ) → ℕ → List Formula
+cube_formulas atoms cubes c = map (λ n. unwrap_or (slice_get (signed atoms) n) False) (unwrap_or (slice_get cubes c) [])
+
+-- the formula of a class, by its atoms and cubes
+abbrev pub formula_by : Template → List Formula → List (List ℕ) → List ℕ → Formula
+formula_by t atoms cubes body = template_formula t (map (cube_formulas atoms cubes) body)
 
 abbrev pub formula_of : Signature → Template → List ℕ → Formula
-formula_of sig t body = template_formula t (map (λ c. literals_at sig t (unwrap_or (slice_get (cubes sig t) c) [])) body)
+formula_of sig t body = formula_by t (atoms sig t) (cubes sig t) body
+
+-- the classes of n literals whose least cube is c
+abbrev pub part_of : List (List ℕ) → ℕ → ℕ → List (List ℕ)
+part_of cubes n c = filter (λ body. unwrap_or (slice_get body 0) 0 == c) (bodies_from 0 cubes n)
+
+abbrev pub part : Signature → Template → ℕ → ℕ → List (List ℕ)
+part sig t n c = part_of (cubes sig t) n c
 
 -- part (n - 1) * C + c, of C cubes, has the classes of n literals whose least cube is c
-abbrev pub part : Signature → Template → ℕ → ℕ → List (List ℕ)
-part sig t n c = filter (λ body. unwrap_or (slice_get body 0) 0 == c) (bodies_from 0 (cubes sig t) n)
+abbrev pub parts_of : ℕ → List (List ℕ) → List (List (List ℕ))
+parts_of most cubes = flat_map (λ n. map (part_of cubes n) (range_with_len 0 (length cubes))) (range_with_len 1 most)
 
 abbrev pub parts : Signature → Template → List (List (List ℕ))
-parts sig t = flat_map (λ n. map (part sig t n) (range_with_len 0 (length (cubes sig t)))) (range_with_len 1 t.literals)
+parts sig t = parts_of t.literals (cubes sig t)

@@ -2,11 +2,12 @@
 use Rattle.std.specs.Prelude.{◌≡◌, true, List, [], ◌∷◌, ◌++◌, Option}
 use Rattle.sw_logic.specs.declared.syntax.Formula.{Formula}
 use Rattle.sw_logic.specs.declared.structure.Structure.{Structure}
-use Rattle.sw_logic.specs.Truth.{IsTrueIn}
+use Rattle.sw_logic.specs.Truth.{AreTrueIn, IsTrueIn}
 use Rattle.sw_logic.specs.Fits.{fits}
 use Rattle.sw_meaning.specs.declared.protocol.Protocol.{Protocol}
-use Rattle.sw_meaning.specs.Runs.{AreTrueIn, Start, Step}
-use Rattle.sw_meaning.specs.Space.{Template, InSpaceOf}
+use Rattle.sw_meaning.specs.Runs.{Start, Step}
+use Rattle.sw_meaning.specs.declared.template.Template.{Template}
+use Rattle.sw_meaning.specs.Space.{InSpaceOf}
 
 -- the formula is true in every start (initiation)
 abbrev pub AtStart : Protocol → Formula → Type 0

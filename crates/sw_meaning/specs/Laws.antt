@@ -3,10 +3,11 @@ use Rattle.std.specs.Prelude.{◌≡◌, ℕ, List, [], Option, Some, Contains}
 use Rattle.std.specs.List.{AllByRecursion}
 use Rattle.sw_logic.specs.declared.syntax.Formula.{Formula}
 use Rattle.sw_logic.specs.declared.structure.Structure.{Structure}
-use Rattle.sw_logic.specs.Truth.{truth, world}
+use Rattle.sw_logic.specs.Truth.{AreTrueIn, truth, world}
 use Rattle.sw_meaning.specs.declared.protocol.Protocol.{Protocol}
-use Rattle.sw_meaning.specs.Runs.{AreTrueIn, Reached}
-use Rattle.sw_meaning.specs.Space.{Template, InSpace}
+use Rattle.sw_meaning.specs.Runs.{Reached}
+use Rattle.sw_meaning.specs.declared.template.Template.{Template}
+use Rattle.sw_meaning.specs.Space.{InSpace}
 use Rattle.sw_meaning.specs.Inductive.{Earned, Closed, Follows}
 use Rattle.sw_meaning.specs.Classes.{classes, formula_of}
 use Rattle.sw_meaning.specs.Plain.{PlainList, formulas_of}

@@ -2,10 +2,11 @@
 use Rattle.std.specs.Prelude.{◌≡◌, Option, None, IsSome, List}
 use Rattle.sw_logic.specs.declared.syntax.Formula.{Formula}
 use Rattle.sw_logic.specs.declared.structure.Structure.{Structure}
-use Rattle.sw_logic.specs.Truth.{IsTrueIn}
+use Rattle.sw_logic.specs.Truth.{AreTrueIn, IsTrueIn}
 use Rattle.sw_meaning.specs.declared.protocol.Protocol.{Protocol}
-use Rattle.sw_meaning.specs.Runs.{AreTrueIn, Start, Step}
-use Rattle.sw_meaning.specs.Space.{Template, InSpaceOf}
+use Rattle.sw_meaning.specs.Runs.{Start, Step}
+use Rattle.sw_meaning.specs.declared.template.Template.{Template}
+use Rattle.sw_meaning.specs.Space.{InSpaceOf}
 use Rattle.sw_meaning.specs.Inductive.{AtStart}
 
 -- what a report says of safety; `unsettled` is printed as `open`

@@ -10,7 +10,7 @@ use Rattle.sw_protocol.specs.Texts.{HasProtocol, IsText, OneProtocol}
 use Rattle.sw_words.specs.declared.commands.Command.{Command}
 use Rattle.sw_words.specs.declared.commands.Command.TheVariants.{Synth, Print}
 use Rattle.sw_words.specs.declared.commands.Options.{Options}
-use Rattle.sw_meaning.specs.Space.{Template}
+use Rattle.sw_meaning.specs.declared.template.Template.{Template}
 use Rattle.sw_meaning.specs.Small.{IsSmall}
 use Rattle.sw_run.specs.Words.{NamesBy, is_plain, is_served, asks_check}
 use Rattle.sw_run.specs.Refusals.{input_refusal}

@@ -1,7 +1,7 @@
 -- What the text of `--breadth` names.
 use Rattle.std.specs.Prelude.{◌≡◌, ℕ, List, [], ◌∷◌, ◌++◌, Option, Some}
 use Rattle.std.proofs.Common.{refl, ap, ◌∙◌, subst}
-use Rattle.sw_meaning.specs.Space.{Template}
+use Rattle.sw_meaning.specs.declared.template.Template.{Template}
 use Rattle.sw_run.specs.Words.{NamesTemplate, NamesBy}
 
 -- a text that names no template

@@ -3,7 +3,7 @@ use Rattle.std.specs.Prelude.{◌≡◌, ℕ, ◌+◌, List, [], ◌∷◌, ◌+
 use Rattle.std.proofs.Common.{refl, arith, sym, ap, ◌∙◌, subst}
 use Rattle.sw_logic.specs.declared.syntax.Formula.{Formula}
 use Rattle.sw_meaning.specs.declared.protocol.Protocol.{Protocol}
-use Rattle.sw_meaning.specs.Space.{Template}
+use Rattle.sw_meaning.specs.declared.template.Template.{Template}
 use Rattle.sw_meaning.specs.Small.{small_template}
 use Rattle.sw_meaning.specs.Plain.{formulas_of}
 use Rattle.sw_meaning.specs.Verdict.{Word, Verdict}

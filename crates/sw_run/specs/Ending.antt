@@ -2,7 +2,7 @@
 use Rattle.std.specs.Prelude.{◌≡◌, ◌⊎◌, ◌<◌, ◌≤◌, ℕ, true, false, List, [], length, Option, Some, None, IfSome, string_bytes, Result, Ok, Err}
 use Rattle.sw_logic.specs.declared.syntax.Formula.{Formula}
 use Rattle.sw_meaning.specs.declared.protocol.Protocol.{Protocol}
-use Rattle.sw_meaning.specs.Space.{Template}
+use Rattle.sw_meaning.specs.declared.template.Template.{Template}
 use Rattle.sw_meaning.specs.Small.{IsSmall}
 use Rattle.sw_meaning.specs.Inductive.{Earned, Closed}
 use Rattle.sw_meaning.specs.Plain.{PlainList, formulas_of}
