@@ -21,14 +21,21 @@ abbrev pub may_change : Option Symbol → Bool
 may_change None = false
 may_change (Some s) = s.mutable
 
--- a symbol that may change
+abbrev pub may_not_change : Option Symbol → Bool
+may_not_change None = false
+may_not_change (Some s) = not s.mutable
+
+-- there is a symbol of this number, and it may change; and one that may not
 abbrev pub is_mutable : Signature → ℕ → Bool
 is_mutable sig symbol = may_change (slice_get sig.symbols symbol)
 
--- axioms read no symbol that may change
+abbrev pub is_immutable : Signature → ℕ → Bool
+is_immutable sig symbol = may_not_change (slice_get sig.symbols symbol)
+
+-- axioms read only symbols that may not change
 pub record IsAxiom (sig : Signature) (f : Formula) : Type 0 where
   pub closed : IsClosed sig f
-  pub immutable : reads (λ symbol post. not (is_mutable sig symbol)) f ≡ true
+  pub immutable : reads (λ symbol post. is_immutable sig symbol) f ≡ true
 
 -- the symbol is plain, or is one of these
 abbrev pub may_be_primed : List ℕ → ℕ → Bool → Bool
