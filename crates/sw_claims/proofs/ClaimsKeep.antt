@@ -9,10 +9,10 @@ use Rattle.std.proofs.lemmas.List.{get_or-set_other, get_or-set_same, length-set
 use Rattle.std.proofs.lemmas.Bool.Decides.{nat_tests}
 use Rattle.sw_claims.specs.declared.rule.ClaimView.{ClaimView}
 use Rattle.sw_claims.specs.ClaimsRule.{total, Each, times, once_below, weight, live_count, may_end, fresh, spent, DrawnOnce, DrawsCounted, OneReason, CountsOut, Limited, Claimed, Kept}
-use Rattle.sw_claims.specs.ClaimsSteps.{Knows, IsAlone, Finds, Drew, Looked, TriedStop, given, taken}
+use Rattle.sw_claims.specs.ClaimsSteps.{Knows, IsAlone, Finds, Drew, Looked, TriedStop, looked, given, taken}
 use Rattle.sw_claims.specs.ClaimsAnswers.{IsEachBelow}
 use Rattle.atomic_table.specs.Table.{State, step, keeps, stepped, Allows, Splits, Joins}
-use Rattle.atomic_table.proofs.Lists.{at_set, at_snoc, set_again, set_else}
+use Rattle.atomic_table.proofs.Lists.{at_set, at_snoc, set_else}
 use Rattle.sw_claims.proofs.Totals.{total-set, total-same, total-snoc, part-le, times-append, once-more, once-here, lone, each_set, each_snoc}
 
 abbrev V : Type 0
@@ -101,10 +101,10 @@ reason_stays s vs id v w at wrote seen r = record {
 }
 
 abbrev with_number : V → ℕ → V
-with_number v n = record v { drawn = v.drawn ++ n ∷ [] }
+with_number v n = record v { drawn = v.drawn ++ n ∷ []; looks_at_draw = v.looks }
 
 abbrev with_end : V → V
-with_end v = record v { ends = 1 }
+with_end v = record v { ends = 1; looks_at_draw = v.looks }
 
 abbrev with_seen : V → ℕ → V
 with_seen v n = record v { seen = n }
@@ -159,20 +159,32 @@ end_met parts d s vs id v r at live unmet above = let w : V = with_end v in let 
       limits = limits_stay parts vs id v w at seat r.limits;
     }
 
--- the reason that stands is read
-reason_read : (parts d s : ℕ) (vs : List V) (id : ℕ) (v : V) → Claimed parts d s vs → get_elem? vs id ≡ some v → v.live ≡ true → Claimed parts d s (set vs id (with_seen v s))
-reason_read parts d s vs id v r at live = let w : V = with_seen v s in let seat = same v w live refl refl refl refl refl in record {
-  numbers = numbers_stay (min d parts) vs id v w at refl r.numbers;
-  draws = draws_stay d vs id v w at refl refl refl r.draws;
+-- a view that learns of the stop word alone
+view_learns : (parts d s : ℕ) (vs : List V) (id : ℕ) (v w : V) → Claimed parts d s vs → get_elem? vs id ≡ some v → SameSeat v w → w.drawn ≡ v.drawn → w.ends ≡ v.ends → w.wrote ≡ v.wrote → (w.seen ≡ 0) ⊎ (w.seen ≡ s)
+    → Claimed parts d s (set vs id w)
+view_learns parts d s vs id v w r at seat drawn ends wrote seen = record {
+  numbers = numbers_stay (min d parts) vs id v w at drawn r.numbers;
+  draws = draws_stay d vs id v w at drawn ends (seat.still ∙ sym seat.live) r.draws;
   reason = record {
-    writer = total-same (λ u. u.wrote) vs id v w at refl ∙ r.reason.writer;
-    written = each_set (λ u. (u.wrote ≡ 0) ⊎ (u.wrote ≡ s)) (λ u. (u.wrote ≡ 0) ⊎ (u.wrote ≡ s)) vs id w r.reason.written (λ u p. p) (r.reason.written id v at);
-    seen = each_set (λ u. (u.seen ≡ 0) ⊎ (u.seen ≡ s)) (λ u. (u.seen ≡ 0) ⊎ (u.seen ≡ s)) vs id w r.reason.seen (λ u p. p) (inr refl);
+    writer = total-same (λ u. u.wrote) vs id v w at wrote ∙ r.reason.writer;
+    written = each_set (λ u. (u.wrote ≡ 0) ⊎ (u.wrote ≡ s)) (λ u. (u.wrote ≡ 0) ⊎ (u.wrote ≡ s)) vs id w r.reason.written (λ u p. p) (subst (λ (n : ℕ). (n ≡ 0) ⊎ (n ≡ s)) (sym wrote) (r.reason.written id v at));
+    seen = each_set (λ u. (u.seen ≡ 0) ⊎ (u.seen ≡ s)) (λ u. (u.seen ≡ 0) ⊎ (u.seen ≡ s)) vs id w r.reason.seen (λ u p. p) seen;
   };
   joined = joined_stays vs id v w seat r.joined;
   out = out_stays vs id v w at seat r.out;
   limits = limits_stay parts vs id v w at seat r.limits;
 }
+
+-- a look that finds no reason
+look_made : (parts d s : ℕ) (vs : List V) (id : ℕ) (v : V) → Claimed parts d s vs → get_elem? vs id ≡ some v → v.live ≡ true → Claimed parts d s (set vs id (looked v))
+look_made parts d s vs id v r at live = view_learns parts d s vs id v (looked v) r at (same v (looked v) live refl refl refl refl refl) refl refl refl (r.reason.seen id v at)
+
+-- the reason that stands is read, by a look or by a stop
+reason_looked : (parts d s : ℕ) (vs : List V) (id : ℕ) (v : V) → Claimed parts d s vs → get_elem? vs id ≡ some v → v.live ≡ true → Claimed parts d s (set vs id (with_seen (looked v) s))
+reason_looked parts d s vs id v r at live = let w : V = with_seen (looked v) s in view_learns parts d s vs id v w r at (same v w live refl refl refl refl refl) refl refl refl (inr refl)
+
+reason_read : (parts d s : ℕ) (vs : List V) (id : ℕ) (v : V) → Claimed parts d s vs → get_elem? vs id ≡ some v → v.live ≡ true → Claimed parts d s (set vs id (with_seen v s))
+reason_read parts d s vs id v r at live = let w : V = with_seen v s in view_learns parts d s vs id v w r at (same v w live refl refl refl refl refl) refl refl refl (inr refl)
 
 -- the first reason is written
 reason_written : (parts d s : ℕ) (vs : List V) (id : ℕ) (v : V) → Claimed parts d 0 vs → get_elem? vs id ≡ some v → v.live ≡ true → Claimed parts d s (set vs id (with_written v s))
@@ -343,18 +355,20 @@ draws parts slots id me live unmet s k _ at _ = let d : ℕ = get_or s.words 0 0
       record { gained = λ _. refl; ended = λ above. absurd (omega arith); new = λ _. not_drawn parts d (get_or s.words 1 0) s.views id v r at under; after = λ _. drawn_before parts d (get_or s.words 1 0) s.views id v r at; alone = order },
     ))
 
--- a load that tells nothing new
-unchanged : (parts : ℕ) (s : St) (k : Kept parts s) (id : ℕ) (me : Knows) → get_elem? s.views id ≡ some me.0 → Kept parts (stepped s 1 (get_or s.words 1 0) id me.1 me.0 keeps)
-unchanged parts s k id me at = stop_word_stepped parts s k (get_or s.words 1 0) id me me.0 (subst (λ (vs : List V). Claimed parts (get_or s.words 0 0) (get_or s.words 1 0) vs) (sym (set_again s.views id me.0 at)) k.rule)
-
 pub looks : (parts slots id : ℕ) (me : Knows) → me.0.live ≡ true → Allows (Kept parts) slots id me 1 (λ n. n) (Looked (step slots 1 0 0 none) me)
 looks parts slots id me live s k _ at _ = let x : ℕ = get_or s.words 1 0 in let v : V = me.0 in let known = finds parts (get_or s.words 0 0) x s.views id v k.rule at live in dite (ℕ_discrete x 0)
-    (λ runs. (v, keeps, tt, unchanged parts s k id me at, record { found = known; running = λ _. refl; stopped = λ some_reason. absurd (omega arith) }))
-    (λ stands. (
-      with_seen v x,
+    (λ runs. (
+      looked v,
       keeps,
       tt,
-      stop_word_stepped parts s k x id me (with_seen v x) (reason_read parts (get_or s.words 0 0) x s.views id v k.rule at live),
+      stop_word_stepped parts s k x id me (looked v) (look_made parts (get_or s.words 0 0) x s.views id v k.rule at live),
+      record { found = known; running = λ _. refl; stopped = λ some_reason. absurd (omega arith) },
+    ))
+    (λ stands. (
+      with_seen (looked v) x,
+      keeps,
+      tt,
+      stop_word_stepped parts s k x id me (with_seen (looked v) x) (reason_looked parts (get_or s.words 0 0) x s.views id v k.rule at live),
       record { found = known; running = λ e. absurd (stands e); stopped = λ _. refl },
     ))
 

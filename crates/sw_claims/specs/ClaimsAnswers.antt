@@ -4,22 +4,20 @@ use Rattle.sw_claims.specs.declared.rule.ClaimView.{ClaimView}
 use Rattle.sw_claims.specs.declared.seats.Drawn.{Drawn}
 use Rattle.sw_claims.specs.declared.seats.Drawn.TheVariants.{Number, AllDrawn, Stopped}
 use Rattle.sw_claims.specs.ClaimsRule.{times, once_below}
-use Rattle.sw_claims.specs.ClaimsSteps.{IsAlone, Finds}
+use Rattle.sw_claims.specs.ClaimsSteps.{IsAlone, Finds, looked}
 
--- a number below the parts: the stop word held 0, and no draw of the seat's met the end
+-- a step on the draw word gave a number below the parts. No draw of the seat's had met the end
 pub record DrawsNumber (v : ClaimView) (n : ℕ) (w : ClaimView) : Type 0 where
-  pub running : Finds v 0
   pub open_seat : v.ends ≡ 0
   pub below : n < v.parts
   pub new : times n v.drawn ≡ 0
   pub after : length v.drawn ≤ n
-  pub gained : w ≡ record v { drawn = v.drawn ++ n ∷ [] }
+  pub gained : w ≡ record v { drawn = v.drawn ++ n ∷ []; looks_at_draw = v.looks }
   pub alone : IsAlone v → n ≡ length v.drawn
 
--- the end, met now or at an earlier draw
+-- the end, met now by a step on the draw word, or at an earlier draw
 pub record MeetsEnd (v : ClaimView) (w : ClaimView) : Type 0 where
-  pub running : Finds v 0
-  pub now : v.ends ≡ 0 → w ≡ record v { ends = 1 }
+  pub now : v.ends ≡ 0 → w ≡ record v { ends = 1; looks_at_draw = v.looks }
   pub earlier : 1 ≤ v.ends → w ≡ v
   pub alone : IsAlone v → v.ends ≡ 0 → v.parts ≤ length v.drawn
 
@@ -29,11 +27,11 @@ pub record SeesReason (v : ClaimView) (r : ℕ) (w : ClaimView) : Type 0 where
   pub found : Finds v r
   pub seen : w ≡ record v { seen = r }
 
--- what a draw answers, by what its seat knew before and knows afterwards
+-- what a draw answers, by what its seat knew before and knows afterwards: it looks at the stop word once, and then only, where it found 0, comes the draw word
 abbrev pub Draws : ClaimView → Drawn → ClaimView → Type 0
-Draws v (Number n) w = DrawsNumber v n w
-Draws v AllDrawn w = MeetsEnd v w
-Draws v (Stopped r) w = SeesReason v r w
+Draws v (Number n) w = Finds v 0 × DrawsNumber (looked v) n w
+Draws v AllDrawn w = Finds v 0 × MeetsEnd (looked v) w
+Draws v (Stopped r) w = SeesReason (looked v) r w
 
 -- the reason is the first one
 pub record WritesReason (v : ClaimView) (reason r : ℕ) (w : ClaimView) : Type 0 where

@@ -38,15 +38,15 @@ may_end v = if v.live then (if v.ends == 0 then 1 else 0) else 0
 
 -- the first seat's view at the start
 abbrev pub opened : ℕ → ℕ → ClaimView
-opened parts splits = record { live = true; first = true; parts = parts; drawn = []; ends = 0; wrote = 0; seen = 0; splits = splits; out = 0 }
+opened parts splits = record { live = true; first = true; parts = parts; drawn = []; ends = 0; wrote = 0; seen = 0; splits = splits; out = 0; looks = 0; looks_at_draw = 0 }
 
 -- the view of a new seat
 abbrev pub fresh : ℕ → ClaimView
-fresh parts = record { live = true; first = false; parts = parts; drawn = []; ends = 0; wrote = 0; seen = 0; splits = 0; out = 0 }
+fresh parts = record { live = true; first = false; parts = parts; drawn = []; ends = 0; wrote = 0; seen = 0; splits = 0; out = 0; looks = 0; looks_at_draw = 0 }
 
 -- the view of a seat that was joined: empty
 abbrev pub spent : ClaimView
-spent = record { live = false; first = false; parts = 0; drawn = []; ends = 0; wrote = 0; seen = 0; splits = 0; out = 0 }
+spent = record { live = false; first = false; parts = 0; drawn = []; ends = 0; wrote = 0; seen = 0; splits = 0; out = 0; looks = 0; looks_at_draw = 0 }
 
 -- the lists of all views together hold each number below n once, and nothing else: n numbers
 pub record DrawnOnce (n : ℕ) (views : List ClaimView) : Type 0 where

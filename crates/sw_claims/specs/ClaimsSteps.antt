@@ -17,19 +17,23 @@ pub record Finds (v : ClaimView) (n : ℕ) : Type 0 where
   pub wrote : 1 ≤ v.wrote → n ≡ v.wrote
   pub alone : IsAlone v → n ≡ v.wrote
 
--- a number below the parts is new and joins the seat's numbers, and any other is a draw that met the end. A lone seat draws in order
+-- the draw word is stepped on after all looks so far. A number below the parts is new and joins the seat's numbers, and any other is a draw that met the end. A lone seat draws in order
 pub record Drew (st : Step (Unit {0})) (m : Knows) (n : ℕ) (m' : Knows) : Type 0 where
-  pub gained : n < m.0.parts → m' ≡ (record m.0 { drawn = m.0.drawn ++ n ∷ [] }, m.1)
-  pub ended : m.0.parts ≤ n → m' ≡ (record m.0 { ends = 1 }, m.1)
+  pub gained : n < m.0.parts → m' ≡ (record m.0 { drawn = m.0.drawn ++ n ∷ []; looks_at_draw = m.0.looks }, m.1)
+  pub ended : m.0.parts ≤ n → m' ≡ (record m.0 { ends = 1; looks_at_draw = m.0.looks }, m.1)
   pub new : n < m.0.parts → times n m.0.drawn ≡ 0
   pub after : n < m.0.parts → length m.0.drawn ≤ n
   pub alone : IsAlone m.0 → n ≡ length m.0.drawn + m.0.ends
 
--- a reason that is read has then been seen
+-- one look more
+abbrev pub looked : ClaimView → ClaimView
+looked v = record v { looks = v.looks + 1 }
+
+-- one look more, and a reason that is read has then been seen
 pub record Looked (st : Step (Unit {0})) (m : Knows) (n : ℕ) (m' : Knows) : Type 0 where
   pub found : Finds m.0 n
-  pub running : n ≡ 0 → m' ≡ m
-  pub stopped : 1 ≤ n → m' ≡ (record m.0 { seen = n }, m.1)
+  pub running : n ≡ 0 → m' ≡ (looked m.0, m.1)
+  pub stopped : 1 ≤ n → m' ≡ (record (looked m.0) { seen = n }, m.1)
 
 -- the seat's reason is written where 0 was found, and else the reason that stands has been seen
 pub record TriedStop (st : Step (Unit {0})) (m : Knows) (n : ℕ) (m' : Knows) : Type 0 where
@@ -43,4 +47,4 @@ given v = record v { splits = v.splits - 1; out = v.out + 1 }
 
 -- what the other knows is taken in
 abbrev pub taken : ClaimView → ClaimView → ClaimView
-taken v w = record v { drawn = v.drawn ++ w.drawn; ends = v.ends + w.ends; wrote = v.wrote + w.wrote; seen = max v.seen w.seen; out = v.out - 1 }
+taken v w = record v { drawn = v.drawn ++ w.drawn; ends = v.ends + w.ends; wrote = v.wrote + w.wrote; seen = max v.seen w.seen; out = v.out - 1; looks = v.looks + w.looks }

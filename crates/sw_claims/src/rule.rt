@@ -27,6 +27,10 @@ pub struct ClaimView {
     pub splits: u64,
     /// The splits that it made, less the seats that joined it.
     pub out: u64,
+    /// Its loads of the stop word.
+    pub looks: u64,
+    /// How many of its looks stood before its last step on the draw word.
+    pub looks_at_draw: u64,
 }
 
 /// The draw word is word 0, and the stop word is word 1.

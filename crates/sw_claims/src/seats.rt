@@ -1,8 +1,8 @@
 //! Claims on numbered parts, and the seats that draw them.
 ghost use Rattle.std.specs.Prelude.{◌≡◌, ℕ, ◌+◌, ◌-◌, ◌^◌, ◌<◌, ◌≤◌, ◌↔◌, true, nat_lt, [], ◌∷◌, length, IfOk, IsNone, IfSome, IfNone, min};
 ghost use Rattle.sw_claims.specs.ClaimsRule.{opened, fresh};
-ghost use Rattle.sw_claims.specs.ClaimsSteps.{given, taken, IsAlone};
-ghost use Rattle.sw_claims.specs.ClaimsAnswers.{Draws, Stops, IsEachBelow};
+ghost use Rattle.sw_claims.specs.ClaimsSteps.{given, taken, looked, IsAlone, Finds};
+ghost use Rattle.sw_claims.specs.ClaimsAnswers.{Draws, DrawsNumber, MeetsEnd, SeesReason, Stops, IsEachBelow};
 
 use crate::rule::{
     ClaimView, ClaimsRule, DrawStep, JoinStep, LookStep, MOST_PARTS, MOST_SEATS, SplitStep,
@@ -83,26 +83,51 @@ impl Claims {
         Ok((Claims { table }, first))
     }
 
-    /// Draws a number by one `fetch_add`, after a load of the stop word. A seat that has met the end only loads.
+    /// Draws a number by one `fetch_add`, after one load of the stop word. A seat that has met the end only loads.
     pub fn draw(&self, seat: &mut ClaimSeat) -> Drawn
         requires { seat.old.object ≡ self.now }
         ensures object { seat.new.object ≡ seat.old.object }
         ensures draws { Draws seat.old.view result seat.new.view }
     {
-        let shared = &self.table.shared;
-        let reason = shared.load::<LookStep>(&mut seat.seat, STOP_WORD);
+        let reason = self.look(seat);
         if reason != 0 {
             return Drawn::Stopped(reason);
         }
-        if seat.met_end {
-            return Drawn::AllDrawn;
+        match self.next_number(seat) {
+            Some(number) => Drawn::Number(number),
+            None => Drawn::AllDrawn,
         }
+    }
+
+    /// The reason in the stop word, or 0, by one load.
+    fn look(&self, seat: &mut ClaimSeat) -> u64
+        requires { seat.old.object ≡ self.now }
+        ensures object { seat.new.object ≡ seat.old.object }
+        ensures found { Finds seat.old.view result }
+        ensures running { result ≡ 0 → seat.new.view ≡ looked seat.old.view }
+        ensures stopped { 1 ≤ result → SeesReason (looked seat.old.view) result seat.new.view }
+    {
+        let shared = &self.table.shared;
+        shared.load::<LookStep>(&mut seat.seat, STOP_WORD)
+    }
+
+    /// A number by one `fetch_add`, or `None` at the end. A seat that has met the end takes no step.
+    fn next_number(&self, seat: &mut ClaimSeat) -> Option<u64>
+        requires { seat.old.object ≡ self.now }
+        ensures object { seat.new.object ≡ seat.old.object }
+        ensures number { IfSome result (λ n. DrawsNumber seat.old.view n seat.new.view) }
+        ensures end { IfNone result (MeetsEnd seat.old.view seat.new.view) }
+    {
+        if seat.met_end {
+            return None;
+        }
+        let shared = &self.table.shared;
         let number = shared.fetch_add::<DrawStep>(&mut seat.seat, DRAW_WORD, 1);
         if number < seat.parts {
-            return Drawn::Number(number);
+            return Some(number);
         }
         seat.met_end = true;
-        Drawn::AllDrawn
+        None
     }
 
     /// Writes the reason by one `compare_exchange`, if none stands yet, and gives the reason that stands.

@@ -19,6 +19,20 @@ fn two_parts_end_and_the_first_reason_stands(rt: HostRuntime) -> Result<(), Allo
 }
 
 #[test]
+fn a_seat_sees_the_reason_of_another(rt: HostRuntime) -> Result<(), AllocError> {
+    let (claims, mut first) = Claims::new(rt.alloc(), 5, 2)?;
+    let Some(mut second) = claims.split(&mut first) else {
+        panic!(rt; "the first seat has a split");
+    };
+    assert_eq!(rt; claims.draw(&mut second), Drawn::Number(0));
+    assert_eq!(rt; claims.stop(&mut first, 7), 7);
+    assert_eq!(rt; claims.draw(&mut second), Drawn::Stopped(7));
+    claims.join(&mut first, second);
+    assert_eq!(rt; claims.close(first), 1);
+    Ok(())
+}
+
+#[test]
 fn four_threads_draw_each_number_once(rt: HostRuntime) -> Result<(), AllocError> {
     let lists = share_out(&rt, rt.alloc(), 1000, 4)?;
     assert_eq!(rt; lists.len(), 4);

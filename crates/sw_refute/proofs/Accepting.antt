@@ -17,7 +17,7 @@ use Rattle.sw_refute.specs.Verdict.{IsFirstRefused}
 regroup : (clauses : List Clause) (s : Derived) (steps : List Derived) → (clauses ++ s.clause ∷ []) ++ clauses_of steps ≡ clauses ++ clauses_of (s ∷ steps)
 regroup clauses s steps = append_assoc clauses (s.clause ∷ []) (clauses_of steps)
 
-accepted_push : (variables : ℕ) (clauses : List Clause) (steps : List Derived) (s : Derived) → AreAccepted variables clauses steps → IsAccepted variables (clauses ++ clauses_of steps) s → AreAccepted variables clauses (steps ++ s ∷ [])
+pub accepted_push : (variables : ℕ) (clauses : List Clause) (steps : List Derived) (s : Derived) → AreAccepted variables clauses steps → IsAccepted variables (clauses ++ clauses_of steps) s → AreAccepted variables clauses (steps ++ s ∷ [])
 accepted_push variables clauses [] s a h = (subst (λ cs. IsAccepted variables cs s) (append-nil clauses) h, tt)
 accepted_push variables clauses (t ∷ steps) s a h =
     (a.0, accepted_push variables (clauses ++ t.clause ∷ []) steps s a.1 (subst (λ cs. IsAccepted variables cs s) (sym (regroup clauses t steps)) h))

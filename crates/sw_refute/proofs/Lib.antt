@@ -1,9 +1,7 @@
-mod Literals
-mod Members
-mod Truths
+pub mod Literals
 mod Following
 mod Propagating
-mod Accepting
+pub mod Accepting
 mod Verdicts
 mod Statuses
 mod Trails

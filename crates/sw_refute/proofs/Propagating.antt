@@ -9,7 +9,7 @@ use Rattle.sw_refute.specs.declared.clauses.Lit.{Lit}
 use Rattle.sw_refute.specs.declared.clauses.Clause.{Clause}
 use Rattle.sw_refute.specs.Satisfaction.{negation}
 use Rattle.sw_refute.specs.Propagation.{IsFalse, IsConflicting, IsUnit, Propagates, conflict, unit}
-use Rattle.sw_refute.proofs.Members.{here, later, cases}
+use Rattle.sw_lists.proofs.Members.{contains_head, contains_tail, contains_cons}
 
 -- the one list has each literal of the other
 Within : List Lit → List Lit → Type 0
@@ -17,9 +17,9 @@ Within known wider = (l : Lit) → Contains known l → Contains wider l
 
 within_more : (known wider : List Lit) (x : Lit) → Within known wider → Within (x ∷ known) (x ∷ wider)
 unfolding Within
-within_more known wider x w l c = elim (cases x known l c) [
-  | inl e ↦ subst (Contains (x ∷ wider)) e (here x wider)
-  | inr d ↦ later x wider l (w l d)
+within_more known wider x w l c = elim (contains_cons x known l c) [
+  | inl e ↦ subst (Contains (x ∷ wider)) (sym e) (contains_head x wider)
+  | inr d ↦ contains_tail x wider l (w l d)
 ]
 
 conflicting_within : (known wider : List Lit) (c : Clause) → Within known wider → IsConflicting known c → IsConflicting wider c
@@ -45,14 +45,14 @@ propagates_within clauses {known} wider (unit hint c l at u p) w v =
 pushed_within : (known : List Lit) (l : Lit) → Within (known ++ l ∷ []) (l ∷ known)
 unfolding Within
 pushed_within known l m c = elim (Contains-push_cases known l m c) [
-  | inl d ↦ later l known m d
-  | inr e ↦ subst (Contains (l ∷ known)) e (here l known)
+  | inl d ↦ contains_tail l known m d
+  | inr e ↦ subst (Contains (l ∷ known)) e (contains_head l known)
 ]
 
 within_pushed : (known : List Lit) (l : Lit) → Within (l ∷ known) (known ++ l ∷ [])
 unfolding Within
-within_pushed known l m c = elim (cases l known m c) [
-  | inl e ↦ subst (Contains (known ++ l ∷ [])) e (Contains-push known l)
+within_pushed known l m c = elim (contains_cons l known m c) [
+  | inl e ↦ subst (Contains (known ++ l ∷ [])) (sym e) (Contains-push known l)
   | inr d ↦ Contains-append_left known (l ∷ []) m d
 ]
 

@@ -1,18 +1,17 @@
 -- The status of a clause, one literal after another.
-use Rattle.std.specs.Prelude.{◌≡◌, ◌⊎◌, List, [], ◌∷◌, ◌++◌, All, Contains}
+use Rattle.std.specs.Prelude.{◌≡◌, ◌⊎◌, List, [], ◌∷◌, ◌++◌, Some, All, Contains}
 use Rattle.std.proofs.Common.{refl, sym, ◌∙◌, subst, inl, inr}
-use Rattle.std.proofs.lemmas.List.Elements.{All-contains, All-push, All-weaker, All-nil, All-cons, All-head, All-tail, Contains-append_left, Contains-push}
+use Rattle.std.proofs.lemmas.List.Elements.{All-contains, All-pop, All-push, All-weaker, All-nil, All-cons, All-head, All-tail, Contains-append_left, Contains-push}
 use Rattle.sw_refute.specs.declared.clauses.Lit.{Lit}
 use Rattle.sw_refute.specs.declared.trail.Status.{Status}
 use Rattle.sw_refute.specs.declared.trail.Status.TheVariants.{Conflicting, Unit as Single, Neither}
 use Rattle.sw_refute.specs.Propagation.{IsFalse}
 use Rattle.sw_refute.specs.Trail.{Extends}
-use Rattle.sw_refute.proofs.Members.{here, later}
+use Rattle.sw_lists.proofs.Members.{contains_head, contains_tail}
 
 -- what holds of a list that is one element longer holds of the list
 front_all : {X : Type 0} (P : X → Type 0) (xs : List X) (x : X) → All P (xs ++ x ∷ []) → All P xs
-front_all P [] x a = All-nil P
-front_all P (y ∷ xs) x a = All-cons P y xs (All-head P y (xs ++ x ∷ []) a) (front_all P xs x (All-tail P y (xs ++ x ∷ []) a))
+front_all P xs x a = (All-pop P (xs ++ x ∷ []) xs (Some x) refl a).0
 
 back_all : {X : Type 0} (P : X → Type 0) (xs : List X) (x : X) → All P (xs ++ x ∷ []) → P x
 back_all P xs x a = All-contains P (xs ++ x ∷ []) x a (Contains-push xs x)
@@ -22,10 +21,10 @@ false_or_among : (known lits : List Lit) (x : Lit) → All (λ m. (m ≡ x) ⊎ 
 false_or_among known [] x a = inl (All-nil (IsFalse known))
 false_or_among known (l ∷ lits) x a =
     elim (All-head (λ m. (m ≡ x) ⊎ IsFalse known m) l lits a) [
-      | inl e ↦ inr (subst (Contains (l ∷ lits)) e (here l lits))
+      | inl e ↦ inr (subst (Contains (l ∷ lits)) e (contains_head l lits))
       | inr f ↦ elim (false_or_among known lits x (All-tail (λ m. (m ≡ x) ⊎ IsFalse known m) l lits a)) [
         | inl g ↦ inl (All-cons (IsFalse known) l lits f g)
-        | inr c ↦ inr (later l lits x c)
+        | inr c ↦ inr (contains_tail l lits x c)
       ]
     ]
 

@@ -5,9 +5,7 @@ use Rattle.std.proofs.lemmas.Bool.{cases_eq, cases_lt, false≢true}
 use Rattle.std.proofs.lemmas.List.{get_or-set_same, get_or-set_other, get_or_past}
 use Rattle.std.proofs.lemmas.List.Elements.{Contains-append_left, Contains-push, Contains-push_cases}
 use Rattle.sw_refute.specs.declared.clauses.Lit.{Lit}
-
-same_lit : (l m : Lit) → l.0 ≡ m.0 → l ≡ m
-same_lit l m e = let f : ℕ → Lit = λ n. record { 0 = n } in ap f e
+use Rattle.sw_refute.proofs.Literals.{same_literal}
 
 pub within : (truth : List Bool) (l : Lit) → get_or truth l.0 false ≡ true → l.0 < length truth
 within truth l e = elim (cases_lt l.0 (length truth)) [
@@ -21,7 +19,7 @@ half_within n variables size e h = omega arith
 pub set_true : (truth : List Bool) (lits : List Lit) (l : Lit) → l.0 < length truth → ((m : Lit) → (get_or truth m.0 false ≡ true) ↔ Contains lits m) → (m : Lit) → (get_or (set truth l.0 true) m.0 false ≡ true) ↔ Contains (lits ++ l ∷ []) m
 set_true truth lits l h tells m = elim (cases_eq m.0 l.0) [
   | inl e ↦
-      (λ _. subst (Contains (lits ++ l ∷ [])) (same_lit l m (sym e)) (Contains-push lits l), λ _. ap (λ n. get_or (set truth l.0 true) n false) e ∙ get_or-set_same truth l.0 true false h)
+      (λ _. subst (Contains (lits ++ l ∷ [])) (same_literal l m (sym e)) (Contains-push lits l), λ _. ap (λ n. get_or (set truth l.0 true) n false) e ∙ get_or-set_same truth l.0 true false h)
   | inr ne ↦
       let kept : get_or (set truth l.0 true) m.0 false ≡ get_or truth m.0 false = get_or-set_other truth l.0 m.0 true false ne in (
         λ t. Contains-append_left lits (l ∷ []) m ((tells m).0 (sym kept ∙ t)),

@@ -8,7 +8,7 @@ use std::alloc::{AllocError, Global};
 
 /// The literals that are true, in the order in which they became so, and a table of them by number,
 /// with two entries a variable. The table is cleared along the list.
-#[derive(Debug, Drop)]
+#[derive(Drop)]
 pub struct Trail {
     pub variables: u32,
     pub truth: Vec<bool>,
@@ -16,7 +16,7 @@ pub struct Trail {
 }
 
 /// What a clause is where the literals of a trail are true.
-#[derive(Clone, Copy, Debug, PartialEq, Eq)]
+#[derive(Clone, Copy, PartialEq, Eq)]
 pub enum Status {
     /// Every literal is false.
     Conflicting,

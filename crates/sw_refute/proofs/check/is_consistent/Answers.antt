@@ -8,8 +8,8 @@ use Rattle.sw_refute.specs.Satisfaction.{negation}
 use Rattle.sw_refute.specs.Propagation.{IsConsistent}
 use Rattle.sw_refute.specs.Trail.{IsTrail}
 use Rattle.sw_refute.proofs.Literals.{negation_twice}
-use Rattle.sw_refute.proofs.Members.{mapped, source}
-use Rattle.sw_refute.proofs.Truths.{passing, some_passes}
+use Rattle.sw_lists.proofs.Members.{contains_map, contains_unmap}
+use Rattle.sw_lists.proofs.Tests.{some_true, any_true}
 use Rattle.std.proofs.lemmas.List.{take_all}
 use Rattle.std.proofs.lemmas.List.Folds.{list_any_more, list_any_at}
 use Rattle.sw_refute.proofs.check.is_consistent.Goals as goal
@@ -19,13 +19,13 @@ consistent : (trail : Trail) (c : Clause) (b : Bool) → IsTrail trail → trail
 consistent trail c b t negated e =
     let table : Lit → Bool = λ l. get_or trail.truth.items l.0 false in (
       λ f l h g.
-          let among : Contains (map negation c.lits) l = subst (Contains (map negation c.lits)) (negation_twice l) (mapped negation c.lits (negation l) g) in
+          let among : Contains (map negation c.lits) l = subst (Contains (map negation c.lits)) (negation_twice l) (contains_map negation c.lits (negation l) g) in
           let true_here : table l ≡ true = (t.entries l).1 (subst (λ ls. Contains ls l) (sym negated) among) in
-          false≢true (sym (not-true b f) ∙ (e ∙ some_passes table c.lits l h true_here)),
+          false≢true (sym (not-true b f) ∙ (e ∙ any_true table c.lits l h true_here)),
       λ consistent. not_from_false b (false_from_ne_true b (λ f.
-          let p = passing table c.lits (sym e ∙ f) in
-          let s = source negation c.lits p.element (subst (λ ls. Contains ls p.element) negated ((t.entries p.element).0 p.passes)) in
-          consistent s.element s.among (subst (Contains c.lits) (sym s.is) p.among))),
+          let p = some_true table c.lits (sym e ∙ f) in
+          let s = contains_unmap negation c.lits p.0 (subst (λ ls. Contains ls p.0) negated ((t.entries p.0).0 p.2)) in
+          consistent s.0 s.1 (subst (Contains c.lits) (sym s.2) p.1))),
     )
 
 pub returns-then-is_true : goal.returns-then-is_true

@@ -4,7 +4,7 @@ use Rattle.sw_refute.specs.declared.clauses.Lit.{Lit}
 use Rattle.sw_refute.specs.declared.clauses.Clause.{Clause}
 use Rattle.sw_refute.specs.Satisfaction.{IsOver, variable}
 use Rattle.sw_refute.specs.Propagation.{Propagates, clauses_of}
-use Rattle.sw_refute.proofs.Members.{numbered}
+use Rattle.sw_lists.proofs.Members.{get_contains}
 use Rattle.sw_refute.proofs.Propagating.{runs_out, stops, goes_on, ends, no_clause, neither, at_conflict, at_unit}
 use Rattle.sw_refute.proofs.check.propagates.Goals as goal
 
@@ -20,7 +20,7 @@ pub status-requires-clause-over : goal.status-requires-clause-over
 status-requires-clause-over c =
     let clauses : List Clause = c.args.cnf.now.clauses ++ clauses_of c.args.earlier.now in
     subst (λ v. IsOver v c.in-Some.clause.now) (sym c.loop-i.invariant.variables)
-    (All-contains (IsOver c.args.trail.now.variables) clauses c.in-Some.clause.now c.requires.over (numbered clauses (get_or c.args.hints.now c.loop-i.i 0) c.in-Some.clause.now (sym c.in-Some.ensures)))
+    (All-contains (IsOver c.args.trail.now.variables) clauses c.in-Some.clause.now c.requires.over (get_contains clauses (get_or c.args.hints.now c.loop-i.i 0) c.in-Some.clause.now (sym c.in-Some.ensures)))
 
 pub returns-in-Conflicting-clause-conflict : goal.returns-in-Conflicting-clause-conflict
 returns-in-Conflicting-clause-conflict c =
@@ -34,7 +34,7 @@ pub assign-requires-clause-over : goal.assign-requires-clause-over
 assign-requires-clause-over c =
     let clauses : List Clause = c.args.cnf.now.clauses ++ clauses_of c.args.earlier.now in
     let over : IsOver c.args.trail.now.variables c.in-Some.clause.now =
-    All-contains (IsOver c.args.trail.now.variables) clauses c.in-Some.clause.now c.requires.over (numbered clauses (get_or c.args.hints.now c.loop-i.i 0) c.in-Some.clause.now (sym c.in-Some.ensures)) in
+    All-contains (IsOver c.args.trail.now.variables) clauses c.in-Some.clause.now c.requires.over (get_contains clauses (get_or c.args.hints.now c.loop-i.i 0) c.in-Some.clause.now (sym c.in-Some.ensures)) in
     subst (λ v. variable c.in-Unit.lit < v) (sym c.loop-i.invariant.variables)
     (All-contains (λ (l : Lit). variable l < c.args.trail.now.variables) c.in-Some.clause.now.lits c.in-Unit.lit over c.in-Unit.ensures.among)
 

@@ -1,0 +1,5 @@
+pub mod Each
+pub mod Members
+pub mod Places
+pub mod Tests
+pub mod Made
