@@ -12,7 +12,7 @@ use Rattle.sw_logic.specs.declared.structure.Structure.{Structure}
 use Rattle.sw_logic.specs.Fits.{fits, tables_fit, table_fits}
 use Rattle.sw_meaning.specs.declared.protocol.Protocol.{Protocol}
 use Rattle.sw_meaning.specs.Small.{IsSmall, IsSwitch}
-use Rattle.sw_meaning.proofs.Elements.{each-append, each-front, each-back, each-map, each-unmap, each-weaker}
+use Rattle.sw_lists.proofs.Each.{each-append, each-front, each-back, each-map, each-unmap, each-weaker}
 use Rattle.sw_breadth.specs.States.{patterns, structure_of, patterns_of}
 use Rattle.sw_breadth.proofs.Tests.{first_true, second_true, both_true}
 

@@ -12,7 +12,7 @@ use Rattle.sw_meaning.specs.declared.protocol.Protocol.{Protocol}
 use Rattle.sw_meaning.specs.Runs.{Step}
 use Rattle.sw_meaning.specs.Inductive.{AtStart, Kept, Follows}
 use Rattle.sw_meaning.specs.Small.{IsSmall}
-use Rattle.sw_meaning.proofs.Elements.{each-map, each-unmap}
+use Rattle.sw_lists.proofs.Each.{each-map, each-unmap}
 use Rattle.sw_breadth.specs.States.{structure_of, patterns_of, states_of}
 use Rattle.sw_breadth.specs.Steps.{all_true, start_table, step_table, step_row, steps_to}
 use Rattle.sw_breadth.specs.Tables.{within, meet, leads, table_of, list_table, count_true}

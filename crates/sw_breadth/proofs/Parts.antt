@@ -8,7 +8,7 @@ use Rattle.sw_logic.specs.declared.syntax.Formula.TheVariants.{Holds}
 use Rattle.sw_meaning.specs.declared.protocol.Protocol.{Protocol}
 use Rattle.sw_meaning.specs.Classes.{bodies_from, cubes, literals, part, parts, both_signs, classes}
 use Rattle.sw_meaning.specs.Small.{IsSmall, small_template}
-use Rattle.sw_meaning.proofs.Elements.{each-any, each-append, each-map, each-weaker, each-filter}
+use Rattle.sw_lists.proofs.Each.{each-any, each-append, each-map, each-weaker, each-filter}
 use Rattle.sw_meaning.proofs.Bodies.{AreSingle, split}
 use Rattle.sw_meaning.proofs.SmallCover.{cubes_are, are_single, singles, singles_length}
 use Rattle.sw_breadth.specs.declared.classes.Candidate.{Candidate}

@@ -6,7 +6,7 @@ use Rattle.sw_meaning.specs.declared.protocol.Protocol.{Protocol}
 use Rattle.sw_meaning.specs.Classes.{literals, parts}
 use Rattle.sw_meaning.specs.Plain.{After, Until, Passage, Round, PlainList}
 use Rattle.sw_meaning.specs.Small.{IsSmall, small_template}
-use Rattle.sw_meaning.proofs.Elements.{each-append}
+use Rattle.sw_lists.proofs.Each.{each-append}
 use Rattle.sw_meaning.proofs.Earned.{until_keeps, folds_keep}
 use Rattle.sw_meaning.proofs.Parts.{parts_of_classes}
 use Rattle.sw_meaning.proofs.SmallCover.{IsSmallClass, classes_are}

@@ -11,7 +11,7 @@ use Rattle.sw_logic.specs.Truth.{binds}
 use Rattle.sw_meaning.specs.declared.protocol.Protocol.{Protocol}
 use Rattle.sw_meaning.specs.Classes.{both_signs, literals, atoms, symbols_of, is_relation, terms_of, tuples, pairs}
 use Rattle.sw_meaning.specs.Small.{IsSmall, IsFlat, IsSwitch, small_template}
-use Rattle.sw_meaning.proofs.Elements.{each-any, each-flat_map}
+use Rattle.sw_lists.proofs.Each.{each-any, each-flat_map}
 use Rattle.sw_breadth.specs.Numbers.{switches}
 use Rattle.sw_breadth.proofs.Maps.{range_push}
 
