@@ -61,9 +61,6 @@ none_given : (sizes vs : List ℕ) → AreValues sizes [] vs → vs ≡ []
 none_given sizes [] a = refl
 none_given sizes (v ∷ vs) a = absurd a
 
-bit_table : Bool → Table
-bit_table on = Bits (on ∷ [])
-
 equal_bits : (x y : Bool) → same_bit x y ≡ true → x ≡ y
 equal_bits true true e = refl
 equal_bits true false e = absurd (false≢true e)

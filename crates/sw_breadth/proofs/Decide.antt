@@ -183,10 +183,6 @@ module _ (p : Protocol) (small : IsSmall p) where
       (λ s t step e. h s t step (are_true p s g (test.first_true (all_true p g s) _ e)) (test.second_true (all_true p g s) _ e))
 
 -- fewer states are left where a formula does not follow
-count_small : (b : Bool) (bs : List Bool) → count_true bs ≤ count_true (b ∷ bs)
-count_small true bs = omega arith
-count_small false bs = omega arith
-
 count_meet : (xs ys : List Bool) → count_true (meet xs ys) ≤ count_true xs
 count_meet [] ys = omega arith
 count_meet (x ∷ xs) [] = omega arith

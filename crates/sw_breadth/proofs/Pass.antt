@@ -65,9 +65,6 @@ module _ (p : Protocol) (small : IsSmall p) (g : List (List ℕ)) (body : List �
 pub moves_by : (p : Protocol) (old new : Found) → IsFound p new → count_true new.table < count_true old.table → Moves p old new true
 moves_by p old new f c = record { found = f; fewer = λ e. c; stays = λ e. absurd (false≢true (sym e)) }
 
-pub moves_none : (p : Protocol) (old : Found) → IsFound p old → Moves p old old false
-moves_none p old f = record { found = f; fewer = λ e. absurd (false≢true e); stays = λ e. refl }
-
 same_count : (old new : Found) → new ≡ old → count_true new.table ≡ count_true old.table
 same_count old new e = ap (λ f. count_true f.table) e
 

@@ -12,7 +12,7 @@ use std::alloc::{AllocError, Global};
 use sw_meaning::Protocol;
 
 /// A class: the numbers of its literals, rising, and the states where its formula is true.
-#[derive(Debug, Drop)]
+#[derive(Drop)]
 pub struct Candidate {
     pub body: Items<u32>,
     pub table: Items<bool>,

@@ -14,7 +14,7 @@ use sw_meaning::Protocol;
 
 /// The tables of a protocol over its states: where it may start, where it is safe, where each step
 /// leads, and where each literal is true.
-#[derive(Debug, Drop)]
+#[derive(Drop)]
 pub struct Tables {
     pub starts: Items<bool>,
     pub safe: Items<bool>,

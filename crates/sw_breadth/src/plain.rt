@@ -17,7 +17,7 @@ use sw_edge::Gate;
 use sw_meaning::Protocol;
 
 /// The classes found so far, and the states where all of their formulas are true.
-#[derive(Debug, Drop)]
+#[derive(Drop)]
 pub struct Found {
     pub list: Items<Items<u32>>,
     pub table: Items<bool>,

@@ -18,7 +18,7 @@ use std::alloc::{AllocError, Global};
 use sw_meaning::Protocol;
 
 /// What the list shows of safety.
-#[derive(Clone, Copy, Debug, PartialEq, Eq)]
+#[derive(Clone, Copy, PartialEq, Eq)]
 pub enum SmallVerdict {
     /// Safety is false in some start.
     Violated,

@@ -27,8 +27,7 @@ fn a_seat_sees_the_reason_of_another(rt: HostRuntime) -> Result<(), AllocError> 
     assert_eq!(rt; claims.draw(&mut second), Drawn::Number(0));
     assert_eq!(rt; claims.stop(&mut first, 7), 7);
     assert_eq!(rt; claims.draw(&mut second), Drawn::Stopped(7));
-    claims.join(&mut first, second);
-    assert_eq!(rt; claims.close(first), 1);
+    assert_eq!(rt; claims.stop(&mut second, 8), 7);
     Ok(())
 }
 

@@ -2,7 +2,7 @@
 ghost use Rattle.std.specs.Prelude.{ℕ, ◌<◌, List, Option, length};
 
 /// What one read of a source gave.
-#[derive(Clone, Copy, Debug, PartialEq, Eq, Hash)]
+#[derive(Clone, Copy, PartialEq, Eq)]
 pub enum Got {
     /// So many bytes, at the front of the buffer.
     Bytes(usize),
@@ -13,7 +13,7 @@ pub enum Got {
 }
 
 /// What one write to a sink took.
-#[derive(Clone, Copy, Debug, PartialEq, Eq, Hash)]
+#[derive(Clone, Copy, PartialEq, Eq)]
 pub enum Put {
     /// So many bytes, from the front of the piece.
     Bytes(usize),

@@ -10,6 +10,3 @@ pub use edge::{Gate, Got, Put, Sink, Source};
 pub use memory::{MemSink, MemSource, Turn};
 pub use standard::{OpenGate, StdSink, StdSource};
 pub use transfer::{ReadError, WriteFault, read_all, write_all};
-
-#[cfg(test)]
-mod tests;

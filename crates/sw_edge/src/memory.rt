@@ -9,7 +9,7 @@ use std::marker::Model;
 use std::vec;
 
 /// What a source or a sink in memory does at one call.
-#[derive(Clone, Copy, Debug, PartialEq, Eq, Hash)]
+#[derive(Clone, Copy, PartialEq, Eq)]
 pub enum Turn {
     /// It moves as many bytes as it can, at most so many. `Take(0)` is as `Take(1)`.
     Take(u32),

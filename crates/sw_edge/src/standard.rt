@@ -102,7 +102,7 @@ impl<W: Write> Sink for StdSink<W> {
 }
 
 /// The gate that holds nobody back.
-#[derive(Clone, Copy, Debug, PartialEq, Eq, Hash)]
+#[derive(Clone, Copy, PartialEq, Eq)]
 pub struct OpenGate;
 
 impl Gate for OpenGate {

@@ -21,7 +21,7 @@ pub enum ReadError {
 }
 
 /// The sink failed before it had taken all bytes.
-#[derive(Clone, Copy, Debug, PartialEq, Eq, Hash, Error)]
+#[derive(Clone, Copy, Debug, PartialEq, Eq, Error)]
 #[error("the sink failed")]
 pub struct WriteFault;
 

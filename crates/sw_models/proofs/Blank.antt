@@ -12,7 +12,7 @@ use Rattle.sw_logic.specs.declared.syntax.Signature.{Signature}
 use Rattle.sw_logic.specs.declared.structure.Table.{Table}
 use Rattle.sw_logic.specs.Truth.{size_of}
 use Rattle.sw_logic.specs.Fits.{tuple_count, table_fits, tables_fit, fits}
-use Rattle.sw_models.specs.Signatures.{is_signature, is_symbol, is_of_kind}
+use Rattle.sw_logic.specs.Signatures.{is_signature, is_symbol, is_of_kind}
 use Rattle.sw_models.specs.Building.{first_zero, blank_table, blank_tables, building, is_building, counts_fit}
 use Rattle.sw_models.proofs.Complete.{below, size_some}
 use Rattle.sw_models.proofs.Pieces.{past}
@@ -36,8 +36,9 @@ blank_fits sizes args gives Constant e some =
 blank_fits sizes args gives Function e some =
     let count = tuple_count sizes args in
     let size = size_of sizes gives in
+    let parts = and_parts (nat_lt 0 (length args)) (nat_lt gives (length sizes)) e in
     and_from (nat_eq (length (replicate count 0)) count) (list_all (λ v. nat_lt v size) (replicate count 0))
-    (equal (length (replicate count 0)) count (length-replicate count 0)) (zeros_below count size (size_some sizes gives (below gives (length sizes) e) some))
+    (equal (length (replicate count 0)) count (length-replicate count 0)) (zeros_below count size (size_some sizes gives (below gives (length sizes) parts.1) some))
 
 blanks_fit : (sizes : List ℕ) (symbols : List Symbol) → list_all (is_symbol (length sizes)) symbols ≡ true → list_all (λ n. nat_lt 0 n) sizes ≡ true
     → tables_fit sizes symbols (blank_tables sizes symbols) ≡ true

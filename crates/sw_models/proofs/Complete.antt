@@ -20,7 +20,7 @@ use Rattle.sw_models.specs.declared.errors.StructureError.{StructureError}
 use Rattle.sw_models.specs.declared.errors.StructureError.TheVariants.{Syntax, SizeZero, TableLength, ValueRange, Memory}
 use Rattle.sw_models.specs.Text.{line_start, sizes_text, tables_text, structure_text}
 use Rattle.sw_models.specs.Reading.{Line, Content, IsNumber, IsTableOf, Has, HasText, value_fault, table_fault, place_below, answer_of}
-use Rattle.sw_models.specs.Signatures.{is_signature, is_symbol, is_of_kind}
+use Rattle.sw_logic.specs.Signatures.{is_signature, is_symbol, is_of_kind}
 use Rattle.sw_models.proofs.Sound.{above_both, is_structure}
 use Rattle.sw_models.proofs.Unique.{one_answer}
 

@@ -38,10 +38,6 @@ body_one_line (Line.of_symbol symbol) Content.nothing is = absurd is
 body_one_line (Line.of_symbol symbol) (Content.a_size n) is = absurd is
 body_one_line (Line.of_symbol symbol) (Content.a_table table) is = table_one_line symbol.kind table is
 
--- where no line begins as the one that is expected
-pub no_start : (sizes : List ℕ) (at : ℕ) (line : Line) (bytes : List ℕ) → HasNoLine (start_of line) bytes → IsFault sizes at line bytes (Syntax at)
-no_start sizes at line bytes none = IsFault.missing (λ content below b. none (body_of content) below b.text) refl
-
 -- where a line begins so, and goes on with what it may not say
 pub no_content : (sizes : List ℕ) (at : ℕ) (line : Line) (body below bytes : List ℕ) → IsLine (start_of line) body below bytes
     → ((content : Content) → IsOf line content → body ≢ body_of content) → IsFault sizes at line bytes (Syntax at)

@@ -22,10 +22,6 @@ pub match_after : (p q bytes rest : List ℕ) (r : Option (Bor (List ℕ))) → 
 match_after p q bytes rest None e none = none_after p q bytes rest e none
 match_after p q bytes rest (Some x) e some = both_after p q bytes rest x.now e some
 
--- where the first part of a prefix is not there
-pub none_before : (p q bytes : List ℕ) → ((below : List ℕ) → bytes ≢ p ++ below) → (below : List ℕ) → bytes ≢ (p ++ q) ++ below
-none_before p q bytes none below f = none (q ++ below) (f ∙ append_assoc p q below)
-
 -- a line after its start
 pub match_line : (start bytes rest : List ℕ) (r : Option (Bor (List ℕ) × Bor (List ℕ))) → bytes ≡ start ++ rest
     → MatchOption r (HasNoLine [] rest) (λ l. IsLine [] l.0.now l.1.now rest)

@@ -14,7 +14,7 @@ use Rattle.sw_logic.specs.declared.structure.Table.TheVariants.{Bits, Value, Val
 use Rattle.sw_logic.specs.Truth.{size_of, args_of, args_or_none, place_from}
 use Rattle.sw_logic.specs.Fits.{tuple_count, table_fits, tables_fit, fits}
 use Rattle.sw_models.specs.declared.errors.BuildError.{BuildError}
-use Rattle.sw_models.specs.Signatures.{is_signature, is_symbol, is_of_kind}
+use Rattle.sw_logic.specs.Signatures.{is_signature, is_symbol, is_of_kind}
 use Rattle.sw_models.specs.Building.{Building, building, is_building, counts_fit, are_below, value_count, may_have, is_entry, entry_in, entry, IsSet}
 use Rattle.sw_models.specs.Entries.{entry_count, with_entry}
 use Rattle.sw_models.proofs.Complete.{below}

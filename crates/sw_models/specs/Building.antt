@@ -12,7 +12,7 @@ use Rattle.sw_logic.specs.Truth.{size_of, args_of, world, place, bit_in, value_i
 use Rattle.sw_logic.specs.Fits.{tuple_count, fits}
 use Rattle.sw_models.specs.declared.errors.BuildError.{BuildError}
 use Rattle.sw_models.specs.declared.errors.BuildError.TheVariants.{SizeZero, ValueRange, Memory}
-use Rattle.sw_models.specs.Signatures.{is_signature}
+use Rattle.sw_logic.specs.Signatures.{is_signature}
 
 -- a signature and the structure of it so far
 pub record Building : Type 0 where

@@ -1,6 +1,5 @@
 pub mod Building
 pub mod Entries
 pub mod Reading
-pub mod Signatures
 pub mod Steps
 pub mod Text

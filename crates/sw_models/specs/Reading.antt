@@ -12,7 +12,7 @@ use Rattle.sw_logic.specs.Truth.{size_of}
 use Rattle.sw_logic.specs.Fits.{tuple_count, fits}
 use Rattle.sw_models.specs.declared.errors.StructureError.{StructureError}
 use Rattle.sw_models.specs.declared.errors.StructureError.TheVariants.{Syntax, SizeZero, TableLength, ValueRange, Memory}
-use Rattle.sw_models.specs.Signatures.{is_signature}
+use Rattle.sw_logic.specs.Signatures.{is_signature}
 use Rattle.sw_models.specs.Text.{table_text, kind_word, line_start, line_above, structure_text}
 
 -- a line that is expected: the first, one of a sort, one of a symbol

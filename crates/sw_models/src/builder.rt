@@ -3,7 +3,7 @@ ghost use Rattle.std.specs.Prelude.{◌≡◌, ℕ, ◌+◌, ◌-◌, ◌^◌, �
 ghost use Rattle.sw_logic.specs.Truth.{args_of, place_from};
 ghost use Rattle.sw_logic.specs.Fits.{tuple_count, fits};
 ghost use Rattle.sw_models.specs.declared.errors.BuildError.{BuildError};
-ghost use Rattle.sw_models.specs.Signatures.{is_signature};
+ghost use Rattle.sw_logic.specs.Signatures.{is_signature};
 ghost use Rattle.sw_models.specs.Building.{first_zero, blank_table, blank_tables, counts_fit, Starts, are_below, value_count, is_entry, IsSet};
 ghost use Rattle.sw_models.specs.Entries.{entry_count, with_entry};
 
@@ -15,7 +15,7 @@ use sw_logic::{Signature, Structure, Symbol, SymbolKind, Table, count_tuples, si
 
 /// A structure of a signature that is made entry by entry. Contracts see the signature and the
 /// structure so far.
-#[derive(Debug, Drop)]
+#[derive(Drop)]
 pub struct StructureBuilder<'a> {
     signature: &'a Signature,
     sizes: Items<u32>,

@@ -6,8 +6,6 @@ mod errors;
 mod laws;
 mod printing;
 mod reading;
-#[cfg(test)]
-mod tests;
 
 pub use builder::StructureBuilder;
 pub use errors::{BuildError, StructureError};

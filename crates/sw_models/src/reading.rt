@@ -7,7 +7,7 @@ ghost use Rattle.sw_logic.specs.declared.structure.Structure.{Structure};
 ghost use Rattle.sw_logic.specs.declared.structure.Table.{Table};
 ghost use Rattle.sw_logic.specs.Fits.{fits};
 ghost use Rattle.sw_models.specs.declared.errors.StructureError.{StructureError};
-ghost use Rattle.sw_models.specs.Signatures.{is_signature};
+ghost use Rattle.sw_logic.specs.Signatures.{is_signature};
 ghost use Rattle.sw_models.specs.Text.{bit_digit, others_text, values_text, table_text, kind_word, spaced, line_start, line_above, structure_text};
 ghost use Rattle.sw_models.specs.Reading.{Line, Content, IsNumber, IsTableOf, IsFault, value_fault, table_fault, HasText, answer_of};
 ghost use Rattle.sw_models.specs.Steps.{IsLine, HasNoLine, InOrder, SizesRead, TablesRead, FailsAt};

@@ -4,15 +4,15 @@ use Rattle.std.specs.Prelude.{option_and_then, option_map}
 use Rattle.std.specs.List.{AllByRecursion}
 use Rattle.std.proofs.lemmas.List.{take_more, map-append, take-map, take-append-drop}
 use Rattle.std.proofs.Math.Seq.{take-length}
-use Rattle.sw_text.specs.declared.words.Sign.{Sign}
-use Rattle.sw_text.specs.declared.words.Word.{Word}
-use Rattle.sw_text.specs.declared.tree.Tree.{Tree}
-use Rattle.sw_text.specs.declared.limits.TheConstants.{NESTINGS}
-use Rattle.sw_text.specs.Grammar.{Mark, opening}
-use Rattle.sw_text.specs.Limits.{IsWithin}
-use Rattle.sw_text.specs.Machine as machine
-use Rattle.sw_text.specs.Answers.{words_in, Begins}
-use Rattle.sw_text.proofs.Viable.{made}
+use Rattle.sw_trees.specs.declared.words.Sign.{Sign}
+use Rattle.sw_trees.specs.declared.words.Word.{Word}
+use Rattle.sw_trees.specs.declared.tree.Tree.{Tree}
+use Rattle.sw_trees.specs.declared.limits.TheConstants.{NESTINGS}
+use Rattle.sw_trees.specs.Grammar.{Mark, opening}
+use Rattle.sw_trees.specs.Limits.{IsWithin}
+use Rattle.sw_trees.specs.Machine as machine
+use Rattle.sw_trees.specs.Answers.{words_in, Begins}
+use Rattle.sw_trees.proofs.Viable.{made}
 use Rattle.sw_protocol.specs.declared.tree.Declaration.{Declaration}
 use Rattle.sw_protocol.specs.declared.phases.Phase.{Phase}
 use Rattle.sw_protocol.specs.declared.parsing.Parsed.{Parsed}

@@ -2,20 +2,20 @@
 use Rattle.std.proofs.Common.{◌≡◌, ℕ, Bool, true, false, List, [], ◌∷◌, ◌++◌, length, Option, Some, None, refl, sym, ap, subst}
 use Rattle.std.specs.Prelude.{option_map}
 use Rattle.std.proofs.lemmas.List.{append-nil, append_assoc}
-use Rattle.sw_text.specs.declared.words.Keyword.{Keyword}
-use Rattle.sw_text.specs.declared.words.Sign.{Sign}
-use Rattle.sw_text.specs.declared.words.Word.{Word}
-use Rattle.sw_text.specs.declared.tree.Binder.{Binder}
-use Rattle.sw_text.specs.declared.tree.Tree.{Tree}
-use Rattle.sw_text.specs.declared.tree.TermTree.{TermTree}
-use Rattle.sw_text.specs.declared.frames.Frame.{Frame}
-use Rattle.sw_text.specs.declared.machine.Stage.{Stage}
-use Rattle.sw_text.specs.declared.machine.Last.{Last}
-use Rattle.sw_text.specs.declared.machine.State as formula
-use Rattle.sw_text.specs.Grammar.{Mark, Is, no_loads, End, IsFormula}
-use Rattle.sw_text.specs.Machine as machine
-use Rattle.sw_text.proofs.Reading as text_reading
-use Rattle.sw_text.proofs.Complete.{formula_complete}
+use Rattle.sw_trees.specs.declared.words.Keyword.{Keyword}
+use Rattle.sw_trees.specs.declared.words.Sign.{Sign}
+use Rattle.sw_trees.specs.declared.words.Word.{Word}
+use Rattle.sw_trees.specs.declared.tree.Binder.{Binder}
+use Rattle.sw_trees.specs.declared.tree.Tree.{Tree}
+use Rattle.sw_trees.specs.declared.tree.TermTree.{TermTree}
+use Rattle.sw_trees.specs.declared.frames.Frame.{Frame}
+use Rattle.sw_trees.specs.declared.machine.Stage.{Stage}
+use Rattle.sw_trees.specs.declared.machine.Last.{Last}
+use Rattle.sw_trees.specs.declared.machine.State as formula
+use Rattle.sw_trees.specs.Grammar.{Mark, Is, no_loads, End, IsFormula}
+use Rattle.sw_trees.specs.Machine as machine
+use Rattle.sw_trees.proofs.Reading as text_reading
+use Rattle.sw_trees.proofs.Complete.{formula_complete}
 use Rattle.sw_protocol.specs.declared.tree.Statement.{Statement}
 use Rattle.sw_protocol.specs.declared.tree.Heading.{Heading}
 use Rattle.sw_protocol.specs.declared.tree.Declaration.{Declaration}

@@ -1,10 +1,10 @@
 -- What is spelled with nothing after it is spelled with more marks after it.
 use Rattle.std.proofs.Common.{ℕ, Bool, List, ◌++◌}
-use Rattle.sw_text.specs.declared.words.Word.{Word}
-use Rattle.sw_text.specs.declared.tree.Binder.{Binder}
-use Rattle.sw_text.specs.declared.tree.TermTree.{TermTree}
-use Rattle.sw_text.specs.declared.tree.Tree.{Tree}
-use Rattle.sw_text.specs.Grammar.{Mark, Context, End, IsHead, IsTerm, AreTerms, IsBinder, AreBinders, IsAtom, IsSingle, AreSingles, AreBoths, IsImplied, IsFormula}
+use Rattle.sw_trees.specs.declared.words.Word.{Word}
+use Rattle.sw_trees.specs.declared.tree.Binder.{Binder}
+use Rattle.sw_trees.specs.declared.tree.TermTree.{TermTree}
+use Rattle.sw_trees.specs.declared.tree.Tree.{Tree}
+use Rattle.sw_trees.specs.Grammar.{Mark, Context, End, IsHead, IsTerm, AreTerms, IsBinder, AreBinders, IsAtom, IsSingle, AreSingles, AreBoths, IsImplied, IsFormula}
 
 module _ (back : List Mark) where
   head_on : {ms rest : List Mark} {w : Word} {p : Bool} → IsHead ms w p rest → IsHead (ms ++ back) w p (rest ++ back)

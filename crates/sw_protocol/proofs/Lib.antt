@@ -1,7 +1,6 @@
-pub mod Growing
 pub mod Looking
 pub mod OneParse
-pub mod OneProtocol
+pub mod OneDeclared
 pub mod Rows
 pub mod Reading
 pub mod Complete
@@ -10,8 +9,10 @@ pub mod Sound
 pub mod Viable
 pub mod Answering
 pub mod Stepping
-pub mod WrittenLists
-pub mod WrittenNames
-pub mod WrittenDeclarations
-pub mod WrittenTransitions
-pub mod ReadsBack
+pub mod Extending
+pub mod ReadsOnly
+pub mod Few
+pub mod WellFormed
+pub mod Edging
+pub mod Declared
+pub mod OneReading

@@ -2,7 +2,7 @@
 use Rattle.std.proofs.Common.{◌≡◌, List, [], ◌∷◌, ◌++◌, length, map, take, drop, get_or, ℕ, ◌+◌, ◌<◌, refl, sym, ap, ◌∙◌}
 use Rattle.std.specs.Prelude.{Result, Ok, Err, IfOk}
 use Rattle.std.proofs.lemmas.List.{take_more, map-append, at_drop_more}
-use Rattle.sw_text.specs.declared.words.Word.{Word}
+use Rattle.sw_trees.specs.declared.words.Word.{Word}
 use Rattle.sw_text.specs.Names.{Around}
 use Rattle.sw_text.specs.declared.names.Place.{Place}
 use Rattle.sw_text.specs.declared.names.Violation.{Violation}
@@ -11,7 +11,8 @@ use Rattle.sw_text.specs.Resolving.{Finds}
 use Rattle.sw_meaning.specs.declared.protocol.Protocol.{Protocol}
 use Rattle.sw_protocol.specs.declared.tree.Declaration.{Declaration}
 use Rattle.sw_protocol.specs.declared.draft.Draft.{Draft}
-use Rattle.sw_protocol.specs.Declaring.{after, reading, Knows, FindsKept, declaration_faults, declared, all_faults, all_declared, sort_faults, sorts_faults, sort_of, sorts_of, one_modified_faults, modified_faults, symbol_of, symbols_of}
+use Rattle.sw_protocol.specs.Declaring.{after, declaration_faults, declared, all_faults, all_declared, sort_faults, sorts_faults, sort_of, sorts_of, one_modified_faults, modified_faults, symbol_of, symbols_of}
+use Rattle.sw_protocol.specs.Drafts.{reading, Knows, FindsKept}
 
 module _ (a : Around) where
   pub sorts_faults_more : (ws : List Word) (i : ℕ) (d : Word) → i < length ws → sorts_faults a (drop i ws) ≡ sort_faults a (get_or ws i d) ++ sorts_faults a (drop (i + 1) ws)
@@ -33,18 +34,6 @@ module _ (a : Around) where
 pub finds_kept : {X : Type 0} (all : List Violation) (x : X) (d : Draft) (r : Resolved X) → Finds all x r → FindsKept all x d d r
 finds_kept all x d (Resolved.Found y) h = (h.0, h.1, refl)
 finds_kept all x d (Resolved.Broken v) h = h
-
--- where the names of the transitions are known, names are read by what is declared
-pub reads_after : (text : List ℕ) (d : Draft) → Knows d → reading text d Place.OneState ≡ after text d.protocol
-reads_after text d h = ap (λ (names : List (List ℕ)). record { text = text; signature = d.protocol.signature; declared_too = names; place = Place.OneState }) h
-
-module _ (text : List ℕ) where
-  pub all_faults_more : (p : Protocol) (ds : List Declaration) (i : ℕ) (d : Declaration) → i < length ds →
-      all_faults text p (drop i ds) ≡ declaration_faults (after text p) (get_or ds i d) ++ all_faults text (declared text p (get_or ds i d)) (drop (i + 1) ds)
-  all_faults_more p ds i d h = at_drop_more (all_faults text p) ds i d h
-
-  pub all_declared_more : (p : Protocol) (ds : List Declaration) (i : ℕ) (d : Declaration) → i < length ds → all_declared text p (drop i ds) ≡ all_declared text (declared text p (get_or ds i d)) (drop (i + 1) ds)
-  all_declared_more p ds i d h = at_drop_more (all_declared text p) ds i d h
 
 pub all_kept : {X E : Type 0} (all : List Violation) (x : X) (d : Draft) (r : Result (Resolved X) E) → IfOk r (Finds all x) → IfOk r (FindsKept all x d d)
 all_kept all x d (Ok y) h = finds_kept all x d y h

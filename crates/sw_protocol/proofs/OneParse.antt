@@ -5,13 +5,13 @@ use Rattle.std.specs.List.{AllByRecursion}
 use Rattle.std.proofs.lemmas.Bool.Decides.{nat_tests}
 use Rattle.std.proofs.lemmas.List.{at_drop_more, map-append, append_assoc, append-nil, take-append-drop, length-map, length-take-le}
 use Rattle.std.proofs.Math.Seq.{take-length, drop-length}
-use Rattle.sw_text.specs.declared.words.Sign.{Sign}
-use Rattle.sw_text.specs.declared.words.Word.{Word}
-use Rattle.sw_text.specs.declared.limits.TheConstants.{NESTINGS, PATH}
+use Rattle.sw_trees.specs.declared.words.Sign.{Sign}
+use Rattle.sw_trees.specs.declared.words.Word.{Word}
+use Rattle.sw_trees.specs.declared.limits.TheConstants.{NESTINGS, PATH}
 use Rattle.sw_logic.specs.declared.variables.TheConstants.{VARIABLES}
-use Rattle.sw_text.specs.Grammar.{Loads, Mark}
-use Rattle.sw_text.specs.Limits.{IsWithin}
-use Rattle.sw_text.specs.Answers.{words_in, Begins}
+use Rattle.sw_trees.specs.Grammar.{Loads, Mark}
+use Rattle.sw_trees.specs.Limits.{IsWithin}
+use Rattle.sw_trees.specs.Answers.{words_in, Begins}
 use Rattle.sw_protocol.specs.declared.tree.Declaration.{Declaration}
 use Rattle.sw_protocol.specs.declared.phases.Phase.{Phase}
 use Rattle.sw_protocol.specs.declared.parsing.Parsed.{Parsed}
@@ -21,7 +21,7 @@ use Rattle.sw_protocol.specs.Answers.{IsWhole, StopsAt, IsSyntax, GoesPast, IsTo
 use Rattle.sw_protocol.proofs.Reading.{at, Reads}
 use Rattle.sw_protocol.proofs.Complete.{declarations_read}
 use Rattle.sw_protocol.proofs.Sound.{declarations_sound}
-use Rattle.sw_text.proofs.Viable.{made}
+use Rattle.sw_trees.proofs.Viable.{made}
 use Rattle.sw_protocol.proofs.Answering.{splits, HasRead, words_more, reads_more, goes_on, begins_runs, shallow, deep_ends, ends_past}
 
 -- a limit is gone past

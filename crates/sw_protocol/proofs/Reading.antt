@@ -1,9 +1,9 @@
 -- What the machine reads, with the loads of each word.
 use Rattle.std.proofs.Common.{◌≡◌, ℕ, Bool, false, List, [], ◌∷◌, ◌++◌, Some, None, sym, ap, ◌∙◌}
 use Rattle.std.specs.Prelude.{if◌then◌else◌}
-use Rattle.sw_text.specs.declared.words.Sign.{Sign}
-use Rattle.sw_text.specs.declared.words.Word.{Word}
-use Rattle.sw_text.specs.Grammar.{Loads, Mark, Is}
+use Rattle.sw_trees.specs.declared.words.Sign.{Sign}
+use Rattle.sw_trees.specs.declared.words.Word.{Word}
+use Rattle.sw_trees.specs.Grammar.{Loads, Mark, Is}
 use Rattle.sw_text.specs.Names.{bytes_at}
 use Rattle.sw_protocol.specs.declared.tree.Declaration.{Declaration}
 use Rattle.sw_protocol.specs.declared.phases.Phase.{Phase}

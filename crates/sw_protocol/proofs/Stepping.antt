@@ -1,13 +1,13 @@
 -- What the steps of the machine answer.
 use Rattle.std.proofs.Common.{◌≡◌, inl, ℕ, ◌<◌, List, Option, Some, None, refl, sym, ap, subst, arith, ◌∙◌}
 use Rattle.std.specs.Prelude.{option_map}
-use Rattle.sw_text.specs.declared.words.Sign.{Sign}
-use Rattle.sw_text.specs.declared.words.Word.{Word}
-use Rattle.sw_text.specs.declared.tree.Tree.{Tree}
-use Rattle.sw_text.specs.declared.limits.TheConstants.{NESTINGS}
-use Rattle.sw_text.specs.declared.machine.State as formula
-use Rattle.sw_text.specs.Measures.{nestings_of}
-use Rattle.sw_text.specs.Machine as machine
+use Rattle.sw_trees.specs.declared.words.Sign.{Sign}
+use Rattle.sw_trees.specs.declared.words.Word.{Word}
+use Rattle.sw_trees.specs.declared.tree.Tree.{Tree}
+use Rattle.sw_trees.specs.declared.limits.TheConstants.{NESTINGS}
+use Rattle.sw_trees.specs.declared.machine.State as formula
+use Rattle.sw_trees.specs.Measures.{nestings_of}
+use Rattle.sw_trees.specs.Machine as machine
 use Rattle.sw_protocol.specs.declared.tree.Declaration.{Declaration}
 use Rattle.sw_protocol.specs.declared.phases.Owner.{Owner}
 use Rattle.sw_protocol.specs.declared.phases.Phase.{Phase}

@@ -1,15 +1,15 @@
 -- Whatever was read goes on to a protocol.
 use Rattle.std.proofs.Common.{◌≡◌, ℕ, Bool, true, false, List, [], ◌∷◌, ◌++◌, Some, None, refl}
-use Rattle.sw_text.specs.declared.words.Keyword.{Keyword}
-use Rattle.sw_text.specs.declared.words.Sign.{Sign}
-use Rattle.sw_text.specs.declared.words.Word.{Word}
-use Rattle.sw_text.specs.declared.tree.Binder.{Binder}
-use Rattle.sw_text.specs.declared.machine.Stage.{Stage}
-use Rattle.sw_text.specs.declared.machine.State as formula
-use Rattle.sw_text.specs.Grammar.{Loads, Mark, Context}
-use Rattle.sw_text.specs.Machine as machine
-use Rattle.sw_text.proofs.Reading as text_reading
-use Rattle.sw_text.proofs.Viable.{IsProper, start_proper, step_proper, completes, made}
+use Rattle.sw_trees.specs.declared.words.Keyword.{Keyword}
+use Rattle.sw_trees.specs.declared.words.Sign.{Sign}
+use Rattle.sw_trees.specs.declared.words.Word.{Word}
+use Rattle.sw_trees.specs.declared.tree.Binder.{Binder}
+use Rattle.sw_trees.specs.declared.machine.Stage.{Stage}
+use Rattle.sw_trees.specs.declared.machine.State as formula
+use Rattle.sw_trees.specs.Grammar.{Loads, Mark, Context}
+use Rattle.sw_trees.specs.Machine as machine
+use Rattle.sw_trees.proofs.Reading as text_reading
+use Rattle.sw_trees.proofs.Viable.{IsProper, start_proper, step_proper, completes, made}
 use Rattle.sw_protocol.specs.declared.tree.Declaration.{Declaration}
 use Rattle.sw_protocol.specs.declared.phases.Naming.{Naming}
 use Rattle.sw_protocol.specs.declared.phases.Typing.{Typing}

@@ -1,10 +1,10 @@
 -- What the reader of a protocol's words answers: the declarations, or where the first fault stands.
 use Rattle.std.specs.Prelude.{◌≡◌, ◌⊎◌, ◌<◌, ℕ, ◌+◌, List, [], ◌∷◌, ◌++◌, length, take}
-use Rattle.sw_text.specs.declared.words.Sign.{Sign}
-use Rattle.sw_text.specs.declared.words.Word.{Word}
-use Rattle.sw_text.specs.Grammar.{Mark}
-use Rattle.sw_text.specs.Limits.{IsWithin}
-use Rattle.sw_text.specs.Answers.{words_in, Begins}
+use Rattle.sw_trees.specs.declared.words.Sign.{Sign}
+use Rattle.sw_trees.specs.declared.words.Word.{Word}
+use Rattle.sw_trees.specs.Grammar.{Mark}
+use Rattle.sw_trees.specs.Limits.{IsWithin}
+use Rattle.sw_trees.specs.Answers.{words_in, Begins}
 use Rattle.sw_protocol.specs.declared.tree.Declaration.{Declaration}
 use Rattle.sw_protocol.specs.declared.parsing.Parsed.{Parsed}
 use Rattle.sw_protocol.specs.Grammar.{AreDeclarations}

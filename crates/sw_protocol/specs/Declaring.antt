@@ -9,19 +9,17 @@ use Rattle.sw_logic.specs.declared.syntax.Binder as logic
 use Rattle.sw_meaning.specs.declared.protocol.Protocol.{Protocol}
 use Rattle.sw_meaning.specs.declared.protocol.Transition.{Transition}
 use Rattle.sw_meaning.specs.declared.protocol.Decl.{Decl}
-use Rattle.sw_text.specs.declared.words.Word.{Word}
-use Rattle.sw_text.specs.declared.tree.Tree.{Tree}
+use Rattle.sw_trees.specs.declared.words.Word.{Word}
+use Rattle.sw_trees.specs.declared.tree.Tree.{Tree}
 use Rattle.sw_text.specs.declared.names.Place.{Place}
 use Rattle.sw_text.specs.declared.names.Rule.{Rule}
 use Rattle.sw_text.specs.declared.names.Violation.{Violation}
-use Rattle.sw_text.specs.declared.resolve.Resolved.{Resolved}
 use Rattle.sw_text.specs.Names.{Around, bytes_at, sort_number, symbol_number, is_declared, is_none, number_or_0, broken, binders_faults, bound, faults, formula_read}
 use Rattle.sw_protocol.specs.declared.tree.Statement.{Statement}
 use Rattle.sw_protocol.specs.declared.tree.Heading.{Heading}
 use Rattle.sw_protocol.specs.declared.tree.Declaration.{Declaration}
 use Rattle.sw_protocol.specs.declared.draft.Item.{Item}
 use Rattle.sw_protocol.specs.declared.draft.Item.TheVariants as item
-use Rattle.sw_protocol.specs.declared.draft.Draft.{Draft}
 
 abbrev pub empty_protocol : Protocol
 empty_protocol = record { signature = record { sorts = []; symbols = [] }; axioms = []; inits = []; transitions = []; safeties = []; order = [] }
@@ -181,21 +179,3 @@ all_faults text p (d ∷ ds) = declaration_faults (after text p) d ++ all_faults
 abbrev pub all_declared : List ℕ → Protocol → List Declaration → Protocol
 all_declared text p [] = p
 all_declared text p (d ∷ ds) = all_declared text (declared text p d) ds
-
--- the names of the transitions are kept beside the protocol
-abbrev pub Knows : Draft → Type 0
-Knows d = d.transitions ≡ transition_names d.protocol.transitions
-
--- what names are read by after what is declared so far
-abbrev pub reading : List ℕ → Draft → Place → Around
-reading text d place = record { text = text; signature = d.protocol.signature; declared_too = d.transitions; place = place }
-
--- the first rule that is broken, if any is
-abbrev pub IsFirst : List Violation → Option Violation → Type 0
-IsFirst all None = all ≡ []
-IsFirst all (Some v) = (rest : List Violation) × (all ≡ v ∷ rest)
-
--- the value, and the draft as before, where nothing is broken; or the first rule that is
-abbrev pub FindsKept : {X : Type 0} → List Violation → X → Draft → Draft → Resolved X → Type 0
-FindsKept all x old new (Resolved.Found y) = (all ≡ []) × (y ≡ x) × (new ≡ old)
-FindsKept all x old new (Resolved.Broken v) = (rest : List Violation) × (all ≡ v ∷ rest)

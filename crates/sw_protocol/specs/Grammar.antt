@@ -1,12 +1,12 @@
 -- The texts that are protocols, and the declarations of each of them.
 use Rattle.std.specs.Prelude.{◌≡◌, ◌==◌, ℕ, ◌+◌, Bool, false, true, List, [], ◌∷◌, ◌++◌, length}
-use Rattle.sw_text.specs.declared.words.Keyword.{Keyword}
-use Rattle.sw_text.specs.declared.words.Sign.{Sign}
-use Rattle.sw_text.specs.declared.words.Word.{Word}
-use Rattle.sw_text.specs.declared.tree.Binder.{Binder}
-use Rattle.sw_text.specs.declared.tree.Tree.{Tree}
-use Rattle.sw_text.specs.Measures.{nestings_of}
-use Rattle.sw_text.specs.Grammar.{Loads, no_loads, opening, binding, Mark, Is, Context, End, IsFormula}
+use Rattle.sw_trees.specs.declared.words.Keyword.{Keyword}
+use Rattle.sw_trees.specs.declared.words.Sign.{Sign}
+use Rattle.sw_trees.specs.declared.words.Word.{Word}
+use Rattle.sw_trees.specs.declared.tree.Binder.{Binder}
+use Rattle.sw_trees.specs.declared.tree.Tree.{Tree}
+use Rattle.sw_trees.specs.Measures.{nestings_of}
+use Rattle.sw_trees.specs.Grammar.{Loads, no_loads, opening, binding, Mark, Is, Context, End, IsFormula}
 use Rattle.sw_text.specs.Names.{bytes_at}
 use Rattle.sw_protocol.specs.declared.tree.Statement.{Statement}
 use Rattle.sw_protocol.specs.declared.tree.Heading.{Heading}

@@ -1,8 +1,9 @@
 pub mod Answers
 pub mod Declaring
+pub mod Drafts
 pub mod Grammar
 pub mod Printing
-pub mod ReadsBack
 pub mod Machine
 pub mod Steps
 pub mod Texts
+pub mod Stratified

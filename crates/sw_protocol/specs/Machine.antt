@@ -1,15 +1,15 @@
--- How declarations are read, a word at a time.
+-- How declarations are read, a word at a time: this mirrors the reader, and no promise cites it.
 use Rattle.std.specs.Prelude.{ℕ, ◌+◌, Bool, false, true, List, [], ◌∷◌, ◌++◌, length, Option, Some, None, option_map, if◌then◌else◌}
-use Rattle.sw_text.specs.declared.words.Keyword.{Keyword}
-use Rattle.sw_text.specs.declared.words.Sign.{Sign}
-use Rattle.sw_text.specs.declared.words.Word.{Word}
-use Rattle.sw_text.specs.declared.tree.Binder.{Binder}
-use Rattle.sw_text.specs.declared.tree.Tree.{Tree}
-use Rattle.sw_text.specs.declared.machine.Stage.{Stage}
-use Rattle.sw_text.specs.declared.machine.State as formula
-use Rattle.sw_text.specs.Measures.{nestings_of}
-use Rattle.sw_text.specs.Grammar.{Loads, no_loads, opening, binding}
-use Rattle.sw_text.specs.Machine as machine
+use Rattle.sw_trees.specs.declared.words.Keyword.{Keyword}
+use Rattle.sw_trees.specs.declared.words.Sign.{Sign}
+use Rattle.sw_trees.specs.declared.words.Word.{Word}
+use Rattle.sw_trees.specs.declared.tree.Binder.{Binder}
+use Rattle.sw_trees.specs.declared.tree.Tree.{Tree}
+use Rattle.sw_trees.specs.declared.machine.Stage.{Stage}
+use Rattle.sw_trees.specs.declared.machine.State as formula
+use Rattle.sw_trees.specs.Measures.{nestings_of}
+use Rattle.sw_trees.specs.Grammar.{Loads, no_loads, opening, binding}
+use Rattle.sw_trees.specs.Machine as machine
 use Rattle.sw_text.specs.Names.{bytes_at}
 use Rattle.sw_protocol.specs.declared.tree.Statement.{Statement}
 use Rattle.sw_protocol.specs.declared.tree.Declaration.{Declaration}

@@ -1,8 +1,8 @@
 -- What the functions of the machine answer.
 use Rattle.std.specs.Prelude.{◌≡◌, ◌⊎◌, ◌<◌, ◌≤◌, ℕ, List, Option, Some, None}
-use Rattle.sw_text.specs.declared.limits.TheConstants.{NESTINGS}
-use Rattle.sw_text.specs.Grammar.{Loads}
-use Rattle.sw_text.specs.Limits.{IsWithin}
+use Rattle.sw_trees.specs.declared.limits.TheConstants.{NESTINGS}
+use Rattle.sw_trees.specs.Grammar.{Loads}
+use Rattle.sw_trees.specs.Limits.{IsWithin}
 use Rattle.sw_protocol.specs.declared.tree.Declaration.{Declaration}
 use Rattle.sw_protocol.specs.declared.phases.Phase.{Phase}
 use Rattle.sw_protocol.specs.declared.phases.Move.{Move}

@@ -1,11 +1,12 @@
--- What a text has, where it is to be a protocol.
+-- What a text has, where it is to be a protocol: by its words, its names and its sorts.
 use Rattle.std.specs.Prelude.{◌≡◌, ℕ, List, [], ◌∷◌, length, map, Option, Some, None, Result, Ok, Err}
 use Rattle.sw_scan.specs.declared.Token.{Token}
 use Rattle.sw_scan.specs.Scans.{Scans}
 use Rattle.sw_meaning.specs.declared.protocol.Protocol.{Protocol}
-use Rattle.sw_text.specs.declared.words.Word.{Word}
+use Rattle.sw_meaning.specs.WellFormed.{IsWellFormed}
+use Rattle.sw_trees.specs.declared.words.Word.{Word}
 use Rattle.sw_text.specs.declared.names.Violation.{Violation}
-use Rattle.sw_text.specs.Words.{word_of}
+use Rattle.sw_trees.specs.Words.{word_of}
 use Rattle.sw_text.specs.Texts.{place_in}
 use Rattle.sw_protocol.specs.declared.parsing.Parsed.{Parsed}
 use Rattle.sw_protocol.specs.declared.texts.ProtocolError.{ProtocolError}
@@ -23,15 +24,11 @@ outcome text ws (Parsed.Whole ds) = first_broken (all_faults text empty_protocol
 outcome text ws (Parsed.Syntax n) = Err (ProtocolError.Syntax (place_in (length text) ws n))
 outcome text ws (Parsed.TooDeep n) = Err (ProtocolError.TooDeep (place_in (length text) ws n))
 
--- what the text has: its first byte that begins no token, or what its words are
-pub data HasProtocol (text : List ℕ) (r : Result Protocol ProtocolError) : Type 0 where
-  bad : (at : ℕ) → Scans text 0 (Err at) → r ≡ Err (ProtocolError.BadByte at) → HasProtocol text r
+-- what the text declares: its first byte that begins no token, or what its words are
+pub data HasDeclared (text : List ℕ) (r : Result Protocol ProtocolError) : Type 0 where
+  bad : (at : ℕ) → Scans text 0 (Err at) → r ≡ Err (ProtocolError.BadByte at) → HasDeclared text r
   read : (tokens : List Token) (found : Parsed) → Scans text 0 (Ok tokens) → IsAnswer text (map (word_of text) tokens) found
-      → r ≡ outcome text (map (word_of text) tokens) found → HasProtocol text r
-
--- the text is one of this protocol
-abbrev pub IsText : List ℕ → Protocol → Type 0
-IsText text p = HasProtocol text (Ok p)
+      → r ≡ outcome text (map (word_of text) tokens) found → HasDeclared text r
 
 -- what an answer says of the text; want of memory says nothing
 abbrev pub answer_of : Result Protocol ProtocolError → Option (Result Protocol ProtocolError)
@@ -40,8 +37,13 @@ answer_of (Err (ProtocolError.BadByte at)) = Some (Err (ProtocolError.BadByte at
 answer_of (Err (ProtocolError.Syntax at)) = Some (Err (ProtocolError.Syntax at))
 answer_of (Err (ProtocolError.TooDeep at)) = Some (Err (ProtocolError.TooDeep at))
 answer_of (Err (ProtocolError.Broken v)) = Some (Err (ProtocolError.Broken v))
+answer_of (Err (ProtocolError.NotStratified sort)) = Some (Err (ProtocolError.NotStratified sort))
 answer_of (Err ProtocolError.Memory) = None
 
--- a text has one answer
-abbrev pub OneProtocol : Type 0
-OneProtocol = (text : List ℕ) (r s : Result Protocol ProtocolError) → HasProtocol text r → HasProtocol text s → r ≡ s
+-- a text declares one thing
+abbrev pub OneDeclared : Type 0
+OneDeclared = (text : List ℕ) (r s : Result Protocol ProtocolError) → HasDeclared text r → HasDeclared text s → r ≡ s
+
+-- what a text declares is well formed
+abbrev pub DeclaredIsWellFormed : Type 0
+DeclaredIsWellFormed = (text : List ℕ) (p : Protocol) → HasDeclared text (Ok p) → IsWellFormed p

@@ -4,7 +4,8 @@ ghost use Rattle.std.specs.Prelude.{◌≡◌, [], ◌++◌, IfOk};
 ghost use Rattle.sw_text.specs.declared.names.Place.TheVariants as place;
 ghost use Rattle.sw_text.specs.Names.{number_or_0, bytes_at, faults, formula_read};
 ghost use Rattle.sw_text.specs.Resolving.{around, first_rule, Finds};
-ghost use Rattle.sw_protocol.specs.Declaring.{name_faults, sort_faults, sorts_faults, sort_of, sorts_of, one_modified_faults, modified_faults, symbol_of, symbols_of, is_among, fixed_at, modified_tests, place_of, standing, relation_of, constant_of, function_of, named_faults, named_transition, with_own_name, declaration_faults, item_of, all_faults, all_declared, empty_protocol, reading, IsFirst, FindsKept};
+ghost use Rattle.sw_protocol.specs.Declaring.{name_faults, sort_faults, sorts_faults, sort_of, sorts_of, one_modified_faults, modified_faults, symbol_of, symbols_of, is_among, fixed_at, modified_tests, place_of, standing, relation_of, constant_of, function_of, named_faults, named_transition, with_own_name, declaration_faults, item_of, all_faults, all_declared, empty_protocol};
+ghost use Rattle.sw_protocol.specs.Drafts.{reading, IsFirst, FindsKept};
 ghost use Rattle.sw_protocol.specs.declared.draft.Item.TheVariants as item;
 
 use crate::draft::{Draft, Item};
@@ -13,10 +14,8 @@ use sqlite_items::Items;
 use std::alloc::{AllocError, Global};
 use sw_logic::{Symbol, SymbolKind};
 use sw_meaning::{Protocol, Transition};
-use sw_text::formulas::name_of;
-use sw_text::tree::Tree;
-use sw_text::words::{Word, bytes_of};
-use sw_text::{Names, Place, Resolved, Rule, Violation};
+use sw_text::{Names, Place, Resolved, Rule, Violation, name_of};
+use sw_trees::{Tree, Word, bytes_of};
 
 /// The first rule that a declared name breaks.
 fn new_name(names: &Names<'_>, word: Word) -> Option<Violation>

@@ -1,18 +1,19 @@
 //! A protocol while it is read: what each declaration adds to it.
-ghost use Rattle.std.specs.Prelude.{◌≡◌, IfOk, OnOk};
+ghost use Rattle.std.specs.Prelude.{◌≡◌, OnOk};
 ghost use Rattle.sw_protocol.specs.declared.tree.Statement.TheVariants as statement;
 ghost use Rattle.sw_text.specs.Resolving.{around};
-ghost use Rattle.sw_protocol.specs.Declaring.{empty_protocol, with_sort, with_symbol, with_statement, with_transition, with_item, Knows, reading};
+ghost use Rattle.sw_protocol.specs.Declaring.{empty_protocol, with_sort, with_symbol, with_statement, with_transition, with_item};
+ghost use Rattle.sw_protocol.specs.Drafts.{Knows, reading};
 
 use crate::tree::Statement;
 use sqlite_items::Items;
 use std::alloc::{AllocError, Global};
-use sw_logic::{Formula, Name, Signature, Symbol};
+use sw_logic::{Formula, Name, Signature, Symbol, copy_name};
 use sw_meaning::{Decl, Protocol, Transition};
-use sw_text::{Names, Place};
+use sw_text::{Names, Place, number_of};
 
 /// What one declaration adds.
-#[derive(Debug, Drop)]
+#[derive(Drop)]
 pub enum Item {
     Sort(Name),
     Symbol(Symbol),
@@ -21,33 +22,16 @@ pub enum Item {
 }
 
 /// What is declared so far, and once more the names of the transitions.
-#[derive(Debug, Drop)]
+#[derive(Drop)]
 pub struct Draft {
     pub protocol: Protocol,
     pub transitions: Items<Name>,
 }
 
-/// A count as the number of what comes next; an error where it does not fit.
-fn number(count: usize) -> Result<u32, AllocError>
-    ensures { IfOk result (λ n. n ≡ count) }
-{
-    match u32::try_from(count) {
-        Ok(number) => Ok(number),
-        Err(_) => Err(AllocError),
-    }
-}
-
-/// A name of the same bytes.
-fn copy_name(alloc: Global, name: &Name) -> Result<Name, AllocError>
-    ensures { IfOk result (λ n. n ≡ name.now) }
-{
-    Ok(Name::new(String::from_str(alloc, name.as_str())?))
-}
-
 fn add_sort(protocol: &mut Protocol, name: Name) -> Result<(), AllocError>
     ensures { OnOk result (protocol.new ≡ with_sort protocol.old name) }
 {
-    let count = number(protocol.signature.sorts.len())?;
+    let count = number_of(protocol.signature.sorts.len())?;
     protocol.signature.sorts.push(name)?;
     protocol.order.push(Decl::Sort(count))
 }
@@ -55,7 +39,7 @@ fn add_sort(protocol: &mut Protocol, name: Name) -> Result<(), AllocError>
 fn add_symbol(protocol: &mut Protocol, symbol: Symbol) -> Result<(), AllocError>
     ensures { OnOk result (protocol.new ≡ with_symbol protocol.old symbol) }
 {
-    let count = number(protocol.signature.symbols.len())?;
+    let count = number_of(protocol.signature.symbols.len())?;
     protocol.signature.symbols.push(symbol)?;
     protocol.order.push(Decl::Symbol(count))
 }
@@ -63,7 +47,7 @@ fn add_symbol(protocol: &mut Protocol, symbol: Symbol) -> Result<(), AllocError>
 fn add_axiom(protocol: &mut Protocol, formula: Formula) -> Result<(), AllocError>
     ensures { OnOk result (protocol.new ≡ with_statement protocol.old statement.Axiom formula) }
 {
-    let count = number(protocol.axioms.len())?;
+    let count = number_of(protocol.axioms.len())?;
     protocol.axioms.push(formula)?;
     protocol.order.push(Decl::Axiom(count))
 }
@@ -71,7 +55,7 @@ fn add_axiom(protocol: &mut Protocol, formula: Formula) -> Result<(), AllocError
 fn add_init(protocol: &mut Protocol, formula: Formula) -> Result<(), AllocError>
     ensures { OnOk result (protocol.new ≡ with_statement protocol.old statement.Init formula) }
 {
-    let count = number(protocol.inits.len())?;
+    let count = number_of(protocol.inits.len())?;
     protocol.inits.push(formula)?;
     protocol.order.push(Decl::Init(count))
 }
@@ -79,7 +63,7 @@ fn add_init(protocol: &mut Protocol, formula: Formula) -> Result<(), AllocError>
 fn add_safety(protocol: &mut Protocol, formula: Formula) -> Result<(), AllocError>
     ensures { OnOk result (protocol.new ≡ with_statement protocol.old statement.Safety formula) }
 {
-    let count = number(protocol.safeties.len())?;
+    let count = number_of(protocol.safeties.len())?;
     protocol.safeties.push(formula)?;
     protocol.order.push(Decl::Safety(count))
 }
@@ -97,7 +81,7 @@ fn add_formula(protocol: &mut Protocol, kind: Statement, formula: Formula) -> Re
 fn add_transition(protocol: &mut Protocol, transition: Transition) -> Result<(), AllocError>
     ensures { OnOk result (protocol.new ≡ with_transition protocol.old transition) }
 {
-    let count = number(protocol.transitions.len())?;
+    let count = number_of(protocol.transitions.len())?;
     protocol.transitions.push(transition)?;
     protocol.order.push(Decl::Transition(count))
 }

@@ -1,20 +1,23 @@
 //! Protocols as text: which words spell one, what their names stand for, and canonical text.
 #![tactic(auto)]
 
-pub mod declaring;
-pub mod draft;
-pub mod laws;
-pub mod machine;
-pub mod parsing;
-#[cfg(test)]
-mod parsing_tests;
-pub mod phases;
-pub mod printing;
-pub mod texts;
-pub mod tree;
+mod declaring;
+mod draft;
+mod laws;
+mod machine;
+mod parsing;
+mod phases;
+mod printing;
+mod strata;
+mod stratified;
+mod texts;
+mod tree;
 
+pub use laws::{declared_is_well_formed, one_declared, one_parse, one_protocol};
 pub use parsing::{Parsed, parse};
 pub use printing::print_protocol;
+pub use strata::strata_with;
+pub use stratified::read_protocol;
 pub use sw_meaning::{Decl, Protocol, Transition};
-pub use texts::{ProtocolError, read_protocol};
+pub use texts::{ProtocolError, read_declared};
 pub use tree::{Declaration, Heading, Statement};

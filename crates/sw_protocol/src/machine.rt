@@ -1,9 +1,9 @@
 //! The machine that reads declarations, a word at a time.
 ghost use Rattle.std.specs.Prelude.{◌≡◌, ◌↔◌, ◌<◌, IfOk, IsTrue};
-ghost use Rattle.sw_text.specs.declared.limits.TheConstants.{NESTINGS};
-ghost use Rattle.sw_text.specs.Machine.{finish};
-ghost use Rattle.sw_text.specs.Measures.{nestings_of};
-ghost use Rattle.sw_text.specs.Limits.{IsWithin, IsCount};
+ghost use Rattle.sw_trees.specs.declared.limits.TheConstants.{NESTINGS};
+ghost use Rattle.sw_trees.specs.Machine.{finish};
+ghost use Rattle.sw_trees.specs.Measures.{nestings_of};
+ghost use Rattle.sw_trees.specs.Limits.{IsWithin, IsCount};
 ghost use Rattle.sw_text.specs.Names.{bytes_at};
 ghost use Rattle.sw_protocol.specs.Grammar.{is_hidden, with_params};
 ghost use Rattle.sw_protocol.specs.Machine.{formula_of, begin, changed, named, in_name, after_relation, after_function, after_transition, in_params, after_params, in_list, after_item, after_typing, typed, in_sort, in_formula, params_of, owned, walk, ended, alone_of, nests, loads_in, next};
@@ -14,13 +14,10 @@ use crate::tree::{Declaration, Heading, Statement};
 use sqlite_items::Items;
 use std::alloc::{AllocError, Global};
 use sw_logic::variables::VARIABLES;
-use sw_text::frames::with;
-use sw_text::limits::{NESTINGS, Open, is_within};
-use sw_text::machine;
-use sw_text::machine::{Stage, State};
-use sw_text::measures::nestings_of;
-use sw_text::tree::{Binder, Tree};
-use sw_text::words::{Keyword, Sign, Word, bytes_of};
+use sw_trees::{
+    Binder, Keyword, NESTINGS, Open, Sign, Stage, State, Step, Tree, Word, bytes_of, is_within,
+    nestings_of, with,
+};
 
 /// What a word does that is no semicolon: it is read; or it is not, and a formula may end before it.
 #[derive(Drop)]
@@ -255,8 +252,8 @@ fn in_formula(alloc: Global, owner: Owner, state: State, word: Word) -> Result<W
     ensures { IfOk result (Walks (in_formula owner state word word.sign) (alone_of (finish state))) }
 {
     match state.step(alloc, word)? {
-        machine::Step::Taken(next) => Ok(Walk::Taken(Phase::Formula(owner, next))),
-        machine::Step::Refused(last) => Ok(Walk::Refused(last.finish(alloc)?)),
+        Step::Taken(next) => Ok(Walk::Taken(Phase::Formula(owner, next))),
+        Step::Refused(last) => Ok(Walk::Refused(last.finish(alloc)?)),
     }
 }
 

@@ -7,11 +7,11 @@ use crate::phases::{Move, Phase};
 use crate::tree::Declaration;
 use sqlite_items::Items;
 use std::alloc::{AllocError, Global};
-use sw_text::words::Word;
+use sw_trees::Word;
 
 /// The declarations; or the number of the first word that no protocol can have after those before
 /// it; or of the first that goes past a limit, or that follows a formula whose canonical text would.
-#[derive(Debug, Drop)]
+#[derive(Drop)]
 pub enum Parsed {
     Whole(Items<Declaration>),
     Syntax(usize),

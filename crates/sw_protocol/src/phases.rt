@@ -1,12 +1,10 @@
 //! How far a declaration was read.
 use crate::tree::{Declaration, Heading, Statement};
 use sqlite_items::Items;
-use sw_text::machine::{Stage, State};
-use sw_text::tree::Binder;
-use sw_text::words::Word;
+use sw_trees::{Binder, Stage, State, Word};
 
 /// What the name that comes next is of.
-#[derive(Clone, Copy, Debug)]
+#[derive(Clone, Copy)]
 pub enum Naming {
     Sort,
     Relation(bool),
@@ -16,14 +14,14 @@ pub enum Naming {
 }
 
 /// What a sort is given to: a constant, or a function with the sorts of its arguments.
-#[derive(Debug, Drop)]
+#[derive(Drop)]
 pub enum Typing {
     Constant(bool, Word),
     Function(Word, Items<Word>),
 }
 
 /// What a list of names is of: the sorts of arguments, or the symbols that a transition modifies.
-#[derive(Debug, Drop)]
+#[derive(Drop)]
 pub enum Listing {
     Relation(bool, Word),
     Function(Word),
@@ -31,14 +29,14 @@ pub enum Listing {
 }
 
 /// What a formula belongs to.
-#[derive(Debug, Drop)]
+#[derive(Drop)]
 pub enum Owner {
     Stated(Statement),
     Transition(Heading),
 }
 
 /// What was read of a declaration, and so what may come next.
-#[derive(Debug, Drop)]
+#[derive(Drop)]
 pub enum Phase {
     /// A declaration begins.
     Begin,
@@ -72,7 +70,7 @@ pub enum Phase {
 
 /// What a word does: it is read; it ends a declaration; it or the formula before it goes past a limit;
 /// or no declaration goes on with it.
-#[derive(Debug, Drop)]
+#[derive(Drop)]
 pub enum Move {
     Taken(Phase),
     Whole(Declaration),

@@ -6,25 +6,7 @@ ghost use Rattle.sw_protocol.specs.Printing.{others_text, declaration_line};
 use std::alloc::{AllocError, Global};
 use sw_logic::{Binder, Formula, Signature, Symbol, SymbolKind};
 use sw_meaning::{Decl, Protocol, Transition};
-use sw_text::{push_binders, push_formula};
-
-fn sort_name(signature: &Signature, sort: u32) -> &str
-    ensures { result.now ≡ sort_text signature.now sort }
-{
-    match signature.sorts.get(sort as usize) {
-        Some(name) => name.as_str(),
-        None => "",
-    }
-}
-
-fn symbol_name(signature: &Signature, symbol: u32) -> &str
-    ensures { result.now ≡ name_text signature.now symbol }
-{
-    match signature.symbols.get(symbol as usize) {
-        Some(symbol) => symbol.name.as_str(),
-        None => "",
-    }
-}
+use sw_print::{push_binders, push_formula, sort_name, symbol_name};
 
 /// The sorts after the first.
 fn push_other_sorts(

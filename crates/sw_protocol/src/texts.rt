@@ -1,17 +1,17 @@
-//! Whole texts that are protocols: from bytes to a protocol, or the first fault with its place.
+//! Whole texts that declare protocols: from bytes to a protocol whose names and sorts are right, or
+//! the first fault with its place.
 ghost use Rattle.std.specs.Prelude.{◌≡◌, length, Result, IfSome};
 ghost use Rattle.sw_meaning.specs.declared.protocol.Protocol.{Protocol};
-ghost use Rattle.sw_text.specs.Texts.{place_in};
 ghost use Rattle.sw_protocol.specs.declared.texts.ProtocolError.{ProtocolError};
-ghost use Rattle.sw_protocol.specs.Texts.{outcome, HasProtocol, answer_of};
+ghost use Rattle.sw_protocol.specs.Texts.{outcome, HasDeclared, answer_of};
 
 use crate::declaring::declare;
 use crate::parsing::{Parsed, parse};
 use std::alloc::Global;
 use sw_meaning::Protocol;
 use sw_scan::{ScanError, scan};
-use sw_text::words::{Word, words_of};
-use sw_text::{Resolved, Violation};
+use sw_text::{Resolved, Violation, place_of};
+use sw_trees::{Word, words_of};
 use thiserror::Error;
 
 /// Why a text is no protocol. Places are those of bytes, from 0.
@@ -34,19 +34,14 @@ pub enum ProtocolError {
     #[error("a rule on names and sorts is broken")]
     Broken(Violation),
 
+    /// The functions and the existential quantifiers lead from this sort back to itself. It is the
+    /// first declared one of which this is so.
+    #[error("the sort of number {sort} lies on a cycle")]
+    NotStratified { sort: u32 },
+
     /// Memory ran out, or the text's length does not fit u32.
     #[error("out of memory")]
     Memory,
-}
-
-/// The place of the word of this number, or the end of the text behind the last one.
-fn place_of(words: &[Word], end: u32, number: usize) -> u32
-    ensures { result ≡ place_in end words.now number }
-{
-    match words.get(number) {
-        Some(word) => word.token.at,
-        None => end,
-    }
 }
 
 /// What the text has, where its words are so.
@@ -75,10 +70,10 @@ fn outcome(
     }
 }
 
-/// The protocol that the whole text is.
-pub fn read_protocol(alloc: Global, text: &[u8]) -> Result<Protocol, ProtocolError>
-    ensures has { IfSome (answer_of result) (HasProtocol text.now) }
-    ensures no_other { (r : Result Protocol ProtocolError) → HasProtocol text.now r → IfSome (answer_of result) (λ s. s ≡ r) }
+/// The protocol that the whole text declares. Its sorts need not be stratified.
+pub fn read_declared(alloc: Global, text: &[u8]) -> Result<Protocol, ProtocolError>
+    ensures has { IfSome (answer_of result) (HasDeclared text.now) }
+    ensures no_other { (r : Result Protocol ProtocolError) → HasDeclared text.now r → IfSome (answer_of result) (λ s. s ≡ r) }
 {
     let Ok(end) = u32::try_from(text.len()) else {
         return Err(ProtocolError::Memory);

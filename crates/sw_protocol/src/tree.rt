@@ -1,10 +1,9 @@
 //! What words declare, before names are looked up.
 use sqlite_items::Items;
-use sw_text::tree::{Binder, Tree};
-use sw_text::words::Word;
+use sw_trees::{Binder, Tree, Word};
 
 /// What a formula of the protocol is: an axiom, an initial condition or a safety property.
-#[derive(Clone, Copy, Debug, PartialEq, Eq)]
+#[derive(Clone, Copy)]
 pub enum Statement {
     Axiom,
     Init,
@@ -13,7 +12,7 @@ pub enum Statement {
 
 /// What stands before a transition's formula: its name, its parameters with their sorts, and the
 /// names after `modifies`.
-#[derive(Debug, Drop)]
+#[derive(Drop)]
 pub struct Heading {
     pub name: Word,
     pub params: Items<Binder>,
@@ -21,7 +20,7 @@ pub struct Heading {
 }
 
 /// A declaration. A relation and a constant are mutable where it is true; a function is immutable.
-#[derive(Debug, Drop)]
+#[derive(Drop)]
 pub enum Declaration {
     Sort(Word),
     /// A relation's name and the sorts of its arguments.

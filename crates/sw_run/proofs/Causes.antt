@@ -5,19 +5,19 @@ use Rattle.std.proofs.lemmas.Bool.{false≢true}
 use Rattle.std.proofs.lemmas.Option.{same_Some}
 use Rattle.sw_edge.specs.Edge.{Took}
 use Rattle.sw_meaning.specs.declared.protocol.Protocol.{Protocol}
-use Rattle.sw_protocol.specs.declared.texts.ProtocolError.{ProtocolError}
-use Rattle.sw_protocol.specs.Texts.{HasProtocol, IsText, OneProtocol}
+use Rattle.sw_protocol.specs.Stratified.{IsText}
 use Rattle.sw_words.specs.declared.commands.Command.{Command}
 use Rattle.sw_words.specs.declared.commands.Command.TheVariants.{Synth, Print}
 use Rattle.sw_words.specs.declared.commands.Options.{Options}
 use Rattle.sw_meaning.specs.declared.template.Template.{Template}
 use Rattle.sw_meaning.specs.Small.{IsSmall}
 use Rattle.sw_run.specs.Words.{NamesBy, is_plain, is_served, asks_check}
-use Rattle.sw_run.specs.Refusals.{input_refusal}
-use Rattle.sw_run.specs.Ending.{Change, Answer, Misreads, Reads, Searches, Reports, Prints, IsInput, IsUnbuilt, IsTooLong, Allowed, AllowedCheck, refused}
+use Rattle.sw_run.specs.Ending.{Change, Answer, Faults, Misreads, Reads, Searches, Reports, Prints, IsInput, IsUnbuilt, IsTooLong, Allowed, AllowedCheck, refused}
 use Rattle.sw_run.specs.Laws.{Tells, LacksMemory, IsRefusedUnread, WordsChoose, InputChooses, SearchChooses, RowsExcludeEachOther}
 use Rattle.sw_run.specs.declared.input.TheConstants.{INPUT_LIMIT}
+use Rattle.sw_run.specs.declared.told.Refusal.{Refusal}
 use Rattle.sw_run.specs.declared.told.Refusal.TheVariants.{Usage, TooLong, Unbuilt, ReadFault}
+use Rattle.sw_run.proofs.Inputs.{one_fault, not_both, one_text}
 
 -- ---- words
 
@@ -85,15 +85,6 @@ module _ (command : Option Command) (input : Change) (a : Answer) where
 
 -- ---- input
 
-same_fault : (e f : ProtocolError) → ◌≡◌ {A = Result Protocol ProtocolError} (Err e) (Err f) → e ≡ f
-same_fault e f is = cc
-
-same_protocol : (p q : Protocol) → ◌≡◌ {A = Result Protocol ProtocolError} (Ok p) (Ok q) → p ≡ q
-same_protocol p q is = cc
-
-fault_or_protocol : (e : ProtocolError) (p : Protocol) → ◌≡◌ {A = Result Protocol ProtocolError} (Err e) (Ok p) → ⊥
-fault_or_protocol e p is = cc
-
 -- so many bytes were taken, and no other number
 one_count : (input : Change) (m n : ℕ) → Tells input → Took input.before input.now m → Took input.before input.now n → m ≡ n
 one_count input m n tells a b =
@@ -133,38 +124,38 @@ module _ (input : Change) (bytes : List ℕ) (told : input.before ≡ Some bytes
   not_over : (whole : List ℕ) → IsInput input whole → INPUT_LIMIT < length bytes → ⊥
   not_over whole read over = omega (arith, fits whole read, over)
 
-  module _ (one : OneProtocol) (Answers : Protocol → Answer → Type 0) (a : Answer) where
+  module _ (Answers : Protocol → Answer → Type 0) (a : Answer) where
     pub too_long_alone : INPUT_LIMIT < length bytes → Reads input Answers a → (a ≡ refused TooLong) ⊎ (a ≡ refused ReadFault)
     too_long_alone over (Reads.misread (Misreads.read_fault rose within is)) = inr is
     too_long_alone over (Reads.misread (Misreads.too_long long is)) = inl is
-    too_long_alone over (Reads.misread (Misreads.faulty whole e read has is)) = absurd (not_over whole read over)
+    too_long_alone over (Reads.misread (Misreads.faulty whole r read has is)) = absurd (not_over whole read over)
     too_long_alone over (Reads.read p s is) = absurd (not_over s.bytes s.read over)
 
-    pub faulty_alone : (e : ProtocolError) → length bytes ≤ INPUT_LIMIT → HasProtocol bytes (Err e) → Reads input Answers a → (a ≡ refused (input_refusal e)) ⊎ (a ≡ refused ReadFault)
-    faulty_alone e few has (Reads.misread (Misreads.read_fault rose within is)) = inr is
-    faulty_alone e few has (Reads.misread (Misreads.too_long long is)) = absurd (not_within long few)
-    faulty_alone e few has (Reads.misread (Misreads.faulty whole f read other is)) =
-        let here : HasProtocol bytes (Err f) = subst (λ text. HasProtocol text (Err f)) (input_told whole read) other in
-        let same : f ≡ e = same_fault f e (one bytes (Err f) (Err e) here has) in inl (is ∙ ap (λ x. refused (input_refusal x)) same)
-    faulty_alone e few has (Reads.read p s is) =
+    pub faulty_alone : (r : Refusal) → length bytes ≤ INPUT_LIMIT → Faults bytes r → Reads input Answers a → (a ≡ refused r) ⊎ (a ≡ refused ReadFault)
+    faulty_alone r few has (Reads.misread (Misreads.read_fault rose within is)) = inr is
+    faulty_alone r few has (Reads.misread (Misreads.too_long long is)) = absurd (not_within long few)
+    faulty_alone r few has (Reads.misread (Misreads.faulty whole q read other is)) =
+        let here : Faults bytes q = subst (λ text. Faults text q) (input_told whole read) other in
+        inl (is ∙ ap refused (one_fault bytes q r here has))
+    faulty_alone r few has (Reads.read p s is) =
         let here : IsText bytes p = subst (λ text. IsText text p) (input_told s.bytes s.read) s.text in
-        absurd (fault_or_protocol e p (one bytes (Err e) (Ok p) has here))
+        absurd (not_both bytes r p has here)
 
     pub spelled_alone : (p : Protocol) → length bytes ≤ INPUT_LIMIT → IsText bytes p → Reads input Answers a → Answers p a ⊎ (a ≡ refused ReadFault)
     spelled_alone p few has (Reads.misread (Misreads.read_fault rose within is)) = inr is
     spelled_alone p few has (Reads.misread (Misreads.too_long long is)) = absurd (not_within long few)
-    spelled_alone p few has (Reads.misread (Misreads.faulty whole f read other is)) =
-        let here : HasProtocol bytes (Err f) = subst (λ text. HasProtocol text (Err f)) (input_told whole read) other in
-        absurd (fault_or_protocol f p (one bytes (Err f) (Ok p) here has))
+    spelled_alone p few has (Reads.misread (Misreads.faulty whole r read other is)) =
+        let here : Faults bytes r = subst (λ text. Faults text r) (input_told whole read) other in
+        absurd (not_both bytes r p here has)
     spelled_alone p few has (Reads.read q s is) =
         let here : IsText bytes q = subst (λ text. IsText text q) (input_told s.bytes s.read) s.text in
-        let same : q ≡ p = same_protocol q p (one bytes (Ok q) (Ok p) here has) in inl (subst (λ x. Answers x a) same is)
+        inl (subst (λ x. Answers x a) (one_text bytes q p here has) is)
 
     taken_alone : Tells input → IsTooLong input → Reads input Answers a → a ≡ refused TooLong
     taken_alone tells long (Reads.misread (Misreads.read_fault rose w is)) =
         let same : w.count ≡ long.count = one_count input w.count long.count tells w.took long.took in absurd (omega (arith, w.within, long.over))
     taken_alone tells long (Reads.misread (Misreads.too_long l is)) = is
-    taken_alone tells long (Reads.misread (Misreads.faulty whole e read has is)) = absurd (not_within long (fits whole read))
+    taken_alone tells long (Reads.misread (Misreads.faulty whole r read has is)) = absurd (not_within long (fits whole read))
     taken_alone tells long (Reads.read p s is) = absurd (not_within long (fits s.bytes s.read))
 
     pub input_chooses : InputChooses input bytes Answers a
@@ -189,10 +180,10 @@ search_chooses options p a = record { report = reported; unbuilt = refused_so }
     refused_so cause (Searches.report r) = absurd (not_unbuilt options p a r cause)
     refused_so cause (Searches.unbuilt other is) = is
 
-pub rows_exclude : OneProtocol → RowsExcludeEachOther
-rows_exclude one = (
+pub rows_exclude : RowsExcludeEachOther
+rows_exclude = (
   words_choose,
-  λ options input bytes a told. input_chooses input bytes told one (Searches options) a,
-  λ input bytes a told. input_chooses input bytes told one Prints a,
+  λ options input bytes a told. input_chooses input bytes told (Searches options) a,
+  λ input bytes a told. input_chooses input bytes told Prints a,
   search_chooses,
 )

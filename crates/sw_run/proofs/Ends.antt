@@ -12,8 +12,8 @@ use Rattle.sw_run.specs.Ending.{Answer, Ends, Writes, TellsRefusal, IsOrLacksMem
 pub tells_line : (e r : Refusal) (err : Change) (status : ℕ) → e ≡ r → Writes err (refusal_line r) (refusal_status r) status → TellsRefusal e err status
 tells_line e r err status is writes = subst (λ x. TellsRefusal x err status) (sym is) (TellsRefusal.its_line writes)
 
-pub tells_as : (e r : Refusal) (err : Change) (status : ℕ) → e ≡ r → TellsRefusal r err status → TellsRefusal e err status
-tells_as e r err status is tells = subst (λ x. TellsRefusal x err status) (sym is) tells
+pub tells_text : (refusal : Refusal) (err : Change) (status : ℕ) (text : List ℕ) → text ≡ refusal_line refusal → Writes err text (refusal_status refusal) status → TellsRefusal refusal err status
+tells_text refusal err status text is writes = TellsRefusal.its_line (subst (λ t. Writes err t (refusal_status refusal) status) is writes)
 
 gains_nothing : (held : Option (List ℕ)) → Gains held held []
 gains_nothing None = refl

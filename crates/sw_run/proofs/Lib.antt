@@ -2,6 +2,8 @@ pub mod Causes
 pub mod ClassText
 pub mod Commands
 pub mod Ends
+pub mod Inputs
 pub mod OneAnswer
 pub mod OneReport
 pub mod Rows
+pub mod Sinks

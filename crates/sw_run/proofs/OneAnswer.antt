@@ -1,12 +1,11 @@
 -- The words and the bytes of the input fix the answer, but for want of memory and failed reads.
-use Rattle.std.specs.Prelude.{◌≡◌, ◌⊎◌, ℕ, List, Option, Some, Err}
+use Rattle.std.specs.Prelude.{◌≡◌, ◌⊎◌, ℕ, List, Option, Some}
 use Rattle.std.proofs.Common.{sym, ◌∙◌, subst, inl, inr}
 use Rattle.sw_meaning.specs.declared.protocol.Protocol.{Protocol}
-use Rattle.sw_protocol.specs.Texts.{HasProtocol, IsText, OneProtocol}
+use Rattle.sw_protocol.specs.Stratified.{IsText}
 use Rattle.sw_words.specs.declared.commands.Command.{Command}
 use Rattle.sw_words.specs.declared.commands.Options.{Options}
-use Rattle.sw_run.specs.Refusals.{input_refusal}
-use Rattle.sw_run.specs.Ending.{Change, Answer, Misreads, Reads, Searches, Prints, Allowed, AllowedCheck, refused}
+use Rattle.sw_run.specs.Ending.{Change, Answer, Faults, Misreads, Reads, Searches, Prints, Allowed, AllowedCheck, refused}
 use Rattle.sw_run.specs.Laws.{IsLost, LacksMemory, IsRefusedUnread, OneAnswer}
 use Rattle.sw_run.specs.declared.told.Refusal.{Refusal}
 use Rattle.sw_run.specs.declared.told.Refusal.TheVariants.{Usage, TooLong, Unbuilt, ReadFault}
@@ -35,7 +34,7 @@ one_search options p a b (Searches.unbuilt cause is) (Searches.unbuilt other sam
 one_print : (p : Protocol) (a b : Answer) → Prints p a → Prints p b → a ≡ b
 one_print p a b x y = x ∙ sym y
 
-module _ (one : OneProtocol) (i j : Change) (bytes : List ℕ) (a b : Answer) (here : i.before ≡ Some bytes) (there : j.before ≡ Some bytes) where
+module _ (i j : Change) (bytes : List ℕ) (a b : Answer) (here : i.before ≡ Some bytes) (there : j.before ≡ Some bytes) where
   same_answers : (Answers : Protocol → Answer → Type 0) (p : Protocol) → ((x y : Answer) → Answers p x → Answers p y → x ≡ y) → Answers p a → Answers p b ⊎ (b ≡ refused ReadFault) → Agree a b
   same_answers Answers p single is (inl other) = inr (single a b is other)
   same_answers Answers p single is (inr failed) = inl (inr (inr failed))
@@ -43,13 +42,13 @@ module _ (one : OneProtocol) (i j : Change) (bytes : List ℕ) (a b : Answer) (h
   one_reading : (Answers : Protocol → Answer → Type 0) → ((p : Protocol) (x y : Answer) → Answers p x → Answers p y → x ≡ y) → Reads i Answers a → Reads j Answers b → Agree a b
   one_reading Answers single (Reads.misread (Misreads.read_fault rose within is)) other = inl (inl (inr is))
   one_reading Answers single (Reads.misread (Misreads.too_long long is)) other =
-      same_or_failed a b (refused TooLong) is (too_long_alone j bytes there one Answers b (over_limit i bytes here long) other)
-  one_reading Answers single (Reads.misread (Misreads.faulty whole e read has is)) other =
-      let known : HasProtocol bytes (Err e) = subst (λ text. HasProtocol text (Err e)) (input_told i bytes here whole read) has in
-      same_or_failed a b (refused (input_refusal e)) is (faulty_alone j bytes there one Answers b e (fits i bytes here whole read) known other)
+      same_or_failed a b (refused TooLong) is (too_long_alone j bytes there Answers b (over_limit i bytes here long) other)
+  one_reading Answers single (Reads.misread (Misreads.faulty whole r read has is)) other =
+      let known : Faults bytes r = subst (λ text. Faults text r) (input_told i bytes here whole read) has in
+      same_or_failed a b (refused r) is (faulty_alone j bytes there Answers b r (fits i bytes here whole read) known other)
   one_reading Answers single (Reads.read p s is) other =
       let known : IsText bytes p = subst (λ text. IsText text p) (input_told i bytes here s.bytes s.read) s.text in
-      same_answers Answers p (single p) is (spelled_alone j bytes there one Answers b p (fits i bytes here s.bytes s.read) known other)
+      same_answers Answers p (single p) is (spelled_alone j bytes there Answers b p (fits i bytes here s.bytes s.read) known other)
 
   module _ (command : Option Command) where
     read_both : (Answers : Protocol → Answer → Type 0) → ((p : Protocol) (x y : Answer) → Answers p x → Answers p y → x ≡ y) → Reads i Answers a → Reads j Answers b ⊎ LacksMemory b → Agree a b
@@ -68,5 +67,5 @@ module _ (one : OneProtocol) (i j : Change) (bytes : List ℕ) (a b : Answer) (h
     one_check (AllowedCheck.check on allowed) other = one_run allowed ((words_choose command j b).check on other)
     one_check (AllowedCheck.no_memory is) other = inl (inl (inl is))
 
-pub one_answer : OneProtocol → OneAnswer
-one_answer one command i j bytes a b here there = (one_run one i j bytes a b here there command, one_check one i j bytes a b here there command)
+pub one_answer : OneAnswer
+one_answer command i j bytes a b here there = (one_run i j bytes a b here there command, one_check i j bytes a b here there command)

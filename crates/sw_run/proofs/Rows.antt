@@ -1,46 +1,65 @@
 -- What errors and answers of parts are told as, by the rows of the table of causes.
-use Rattle.std.specs.Prelude.{◌≡◌, ◌⊎◌, ℕ, true, false, List, [], Option, Some, IfSome, IfErr, Result, Ok, Err, IsErrAnd, option_map}
-use Rattle.std.proofs.Common.{refl, sym, ap, ◌∙◌, subst, inl, inr}
+use Rattle.std.specs.Prelude.{◌≡◌, ◌⊎◌, ℕ, ◌++◌, true, false, List, [], Option, Some, IfSome, IfErr, Result, Ok, Err, IsErrAnd, option_map}
+use Rattle.std.proofs.Common.{refl, sym, ap, ◌∙◌, subst, inl, inr, append-nil}
 use Rattle.std.proofs.lemmas.Bool.{false≢true}
 use Rattle.sw_meaning.specs.declared.protocol.Protocol.{Protocol}
-use Rattle.sw_meaning.specs.ProtocolText.{protocol_text}
+use Rattle.sw_meaning.specs.ProtocolText.{protocol_text, sort_text}
 use Rattle.sw_meaning.specs.Small.{small_template}
 use Rattle.sw_protocol.specs.declared.texts.ProtocolError.{ProtocolError}
-use Rattle.sw_protocol.specs.Texts.{HasProtocol, answer_of as text_answer}
+use Rattle.sw_logic.specs.declared.syntax.Edge.{Edge}
+use Rattle.sw_logic.specs.Strata.{FirstOnCycle}
+use Rattle.sw_strata.specs.declared.ranks.StrataError.{StrataError}
+use Rattle.sw_strata.specs.declared.ranks.StrataError.TheVariants.{Cycle}
+use Rattle.sw_strata.specs.Answers.{IsStrataFault}
+use Rattle.sw_meaning.specs.Edges.{protocol_edges}
+use Rattle.sw_protocol.specs.Texts.{HasDeclared, answer_of as text_answer}
+use Rattle.sw_protocol.specs.Stratified.{IsText}
 use Rattle.sw_words.specs.declared.commands.Command.{Command}
 use Rattle.sw_words.specs.declared.commands.Command.TheVariants.{Synth, Certify, Space, Print, Check, Drill}
 use Rattle.sw_words.specs.declared.commands.Options.{Options}
 use Rattle.sw_run.specs.Words.{IsAsked, NamesBy, is_plain, is_check, is_served}
-use Rattle.sw_run.specs.Ending.{Change, Answer, Misreads, Reads, Searches, Prints, IsInput, IsSpelled, IsUntouched, Allowed, AllowedCheck, refused, answer_of}
+use Rattle.sw_run.specs.Ending.{Change, Answer, Faults, Misreads, Reads, Searches, Prints, IsInput, IsSpelled, IsUntouched, Allowed, AllowedCheck, refused, answer_of}
 use Rattle.sw_run.specs.Refusals.{input_refusal}
 use Rattle.sw_run.specs.declared.report.Report.{Report}
 use Rattle.sw_run.specs.declared.told.Refusal.{Refusal}
-use Rattle.sw_run.specs.declared.told.Refusal.TheVariants.{Unbuilt, NoMemory}
+use Rattle.sw_run.specs.declared.told.Refusal.TheVariants.{NotStratified, Unbuilt, NoMemory}
 use Rattle.sw_run.specs.declared.words.Asked.{Asked}
 use Rattle.sw_run.specs.declared.words.Asked.TheVariants.{Served}
 
 -- ---- the input
 
--- what a fault of the bytes is told as
-fault_of : (bytes : List ℕ) (e : ProtocolError) → IfSome (text_answer (Err e)) (HasProtocol bytes) → HasProtocol bytes (Err e) ⊎ (e ≡ ProtocolError.Memory)
-fault_of bytes (ProtocolError.BadByte at) has = inl has
-fault_of bytes (ProtocolError.Syntax at) has = inl has
-fault_of bytes (ProtocolError.TooDeep at) has = inl has
-fault_of bytes (ProtocolError.Broken v) has = inl has
-fault_of bytes ProtocolError.Memory has = inr refl
+-- what a fault of the words, the names and the sorts is told as
+pub declared_fault : (bytes : List ℕ) (e : ProtocolError) → IfSome (text_answer (Err e)) (HasDeclared bytes) → Faults bytes (input_refusal e) ⊎ (input_refusal e ≡ NoMemory)
+declared_fault bytes (ProtocolError.BadByte at) has = inl (Faults.undeclared (ProtocolError.BadByte at) has refl)
+declared_fault bytes (ProtocolError.Syntax at) has = inl (Faults.undeclared (ProtocolError.Syntax at) has refl)
+declared_fault bytes (ProtocolError.TooDeep at) has = inl (Faults.undeclared (ProtocolError.TooDeep at) has refl)
+declared_fault bytes (ProtocolError.Broken v) has = inl (Faults.undeclared (ProtocolError.Broken v) has refl)
+declared_fault bytes (ProtocolError.NotStratified sort) has = inr refl
+declared_fault bytes ProtocolError.Memory has = inr refl
 
-pub fault_refused : (input : Change) (text bytes : List ℕ) (e : ProtocolError) (r : Result Protocol ProtocolError) → IsInput input bytes → text ≡ bytes → r ≡ Err e
-    → IfSome (text_answer r) (HasProtocol text) → Misreads input (refused (input_refusal e)) ⊎ (input_refusal e ≡ NoMemory)
-fault_refused input text bytes e r read same is has = go (fault_of bytes e (subst (λ t. IfSome (text_answer (Err e)) (HasProtocol t)) same (subst (λ x. IfSome (text_answer x) (HasProtocol text)) is has)))
-  where
-    go : HasProtocol bytes (Err e) ⊎ (e ≡ ProtocolError.Memory) → Misreads input (refused (input_refusal e)) ⊎ (input_refusal e ≡ NoMemory)
-    go (inl fault) = inl (Misreads.faulty bytes e read fault refl)
-    go (inr memory) = inr (ap input_refusal memory)
+-- a fault of the text, passed on
+pub fault_passed : (bytes : List ℕ) (x : Refusal) (r : Result Protocol Refusal) → IsErrAnd r (λ y. y ≡ x) → Faults bytes x ⊎ (x ≡ NoMemory) → IfErr r (λ y. Faults bytes y ⊎ (y ≡ NoMemory))
+fault_passed bytes x (Ok p) is why = absurd is
+fault_passed bytes x (Err y) is why = subst (λ z. Faults bytes z ⊎ (z ≡ NoMemory)) (sym is) why
 
-pub spelled_by : (input : Change) (text bytes : List ℕ) (p : Protocol) (r : Result Protocol ProtocolError) → IsInput input bytes → text ≡ bytes → r ≡ Ok p
-    → IfSome (text_answer r) (HasProtocol text) → IsSpelled input p
-spelled_by input text bytes p r read same is has =
-    record { bytes = bytes; read = read; text = subst (λ t. HasProtocol t (Ok p)) same (subst (λ x. IfSome (text_answer x) (HasProtocol text)) is has) }
+-- the sort that a refusal of strata tells
+pub cycle_first : (p : Protocol) (extra : List Edge) (f : StrataError) (m n : ℕ) → extra ≡ [] → IsStrataFault (protocol_edges p ++ extra) f → f ≡ Cycle m → n ≡ m → FirstOnCycle (protocol_edges p) n
+cycle_first p extra f m n e fault is number =
+    let none : protocol_edges p ++ extra ≡ protocol_edges p = ap (λ xs. protocol_edges p ++ xs) e ∙ append-nil (protocol_edges p) in
+    subst (FirstOnCycle (protocol_edges p)) (sym number) (subst (λ edges. FirstOnCycle edges m) none (subst (IsStrataFault (protocol_edges p ++ extra)) is fault))
+
+-- what is told of a sort on a cycle
+pub cycle_told : (bytes : List ℕ) (p : Protocol) (sort : ℕ) (r : Refusal) → HasDeclared bytes (Ok p) → FirstOnCycle (protocol_edges p) sort
+    → (r ≡ NotStratified (sort_text p.signature sort)) ⊎ (r ≡ NoMemory) → Faults bytes r ⊎ (r ≡ NoMemory)
+cycle_told bytes p sort r has cycle (inl is) = inl (Faults.unstratified p sort has cycle is)
+cycle_told bytes p sort r has cycle (inr lacks) = inr lacks
+
+pub fault_refused : (input : Change) (text bytes : List ℕ) (e : Refusal) → IsInput input bytes → text ≡ bytes → Faults text e ⊎ (e ≡ NoMemory) → Misreads input (refused e) ⊎ (e ≡ NoMemory)
+fault_refused input text bytes e read same (inl fault) = inl (Misreads.faulty bytes e read (subst (λ t. Faults t e) same fault) refl)
+fault_refused input text bytes e read same (inr lacks) = inr lacks
+
+pub spelled_by : (input : Change) (text bytes : List ℕ) (p : Protocol) → IsInput input bytes → text ≡ bytes → IsText text p → IsSpelled input p
+spelled_by input text bytes p read same is = record { bytes = bytes; read = read; text = subst (λ t. IsText t p) same is }
 
 -- an error that was passed on
 pub passed_on : (input : Change) (e : Refusal) (r : Result Protocol Refusal) → IsErrAnd r (λ x. x ≡ e) → Misreads input (refused e) ⊎ (e ≡ NoMemory)

@@ -6,12 +6,15 @@ use Rattle.sw_meaning.specs.declared.template.Template.{Template}
 use Rattle.sw_meaning.specs.Small.{IsSmall}
 use Rattle.sw_meaning.specs.Inductive.{Earned, Closed}
 use Rattle.sw_meaning.specs.Plain.{PlainList, formulas_of}
-use Rattle.sw_meaning.specs.ProtocolText.{protocol_text}
+use Rattle.sw_meaning.specs.ProtocolText.{protocol_text, sort_text}
 use Rattle.sw_meaning.specs.Verdict.{Word, Verdict}
 use Rattle.sw_meaning.specs.Report.{report_text}
 use Rattle.sw_edge.specs.Edge.{Gains, GainsPrefix, Rose, Took}
 use Rattle.sw_protocol.specs.declared.texts.ProtocolError.{ProtocolError}
-use Rattle.sw_protocol.specs.Texts.{HasProtocol, IsText}
+use Rattle.sw_logic.specs.Strata.{FirstOnCycle}
+use Rattle.sw_meaning.specs.Edges.{protocol_edges}
+use Rattle.sw_protocol.specs.Texts.{HasDeclared}
+use Rattle.sw_protocol.specs.Stratified.{IsText}
 use Rattle.sw_words.specs.declared.commands.Command.{Command}
 use Rattle.sw_words.specs.declared.commands.Command.TheVariants.{Synth, Print}
 use Rattle.sw_words.specs.declared.commands.Options.{Options}
@@ -19,7 +22,7 @@ use Rattle.sw_run.specs.Words.{NamesBy, NamesNone, is_plain, is_served, asks_che
 use Rattle.sw_run.specs.Refusals.{input_refusal, refusal_status, refusal_line}
 use Rattle.sw_run.specs.declared.input.TheConstants.{INPUT_LIMIT}
 use Rattle.sw_run.specs.declared.told.Refusal.{Refusal}
-use Rattle.sw_run.specs.declared.told.Refusal.TheVariants.{Usage, TooLong, Unbuilt, ReadFault, NoMemory}
+use Rattle.sw_run.specs.declared.told.Refusal.TheVariants.{Usage, TooLong, NotStratified, Unbuilt, ReadFault, NoMemory}
 use Rattle.sw_run.specs.declared.report.Report.{Report}
 
 -- a source or a sink before a call and after it: its bytes, where they are told, and its faults
@@ -72,11 +75,16 @@ pub record IsSpelled (input : Change) (p : Protocol) : Type 0 where
   pub read : IsInput input bytes
   pub text : IsText bytes p
 
+-- the bytes are no text of a protocol, and this is told of it: their first fault, or the first declared sort on a cycle
+pub data Faults (bytes : List ℕ) (refusal : Refusal) : Type 0 where
+  undeclared : (e : ProtocolError) → HasDeclared bytes (Err e) → refusal ≡ input_refusal e → Faults bytes refusal
+  unstratified : (p : Protocol) (sort : ℕ) → HasDeclared bytes (Ok p) → FirstOnCycle (protocol_edges p) sort → refusal ≡ NotStratified (sort_text p.signature sort) → Faults bytes refusal
+
 -- no protocol comes of the input: the source failed, it has too many bytes, or they have a fault
 pub data Misreads (input : Change) (a : Answer) : Type 0 where
   read_fault : Rose input.faults_before input.faults_now → IsWithinLimit input → a ≡ refused ReadFault → Misreads input a
   too_long : IsTooLong input → a ≡ refused TooLong → Misreads input a
-  faulty : (bytes : List ℕ) (e : ProtocolError) → IsInput input bytes → HasProtocol bytes (Err e) → a ≡ refused (input_refusal e) → Misreads input a
+  faulty : (bytes : List ℕ) (refusal : Refusal) → IsInput input bytes → Faults bytes refusal → a ≡ refused refusal → Misreads input a
 
 -- what a command answers that reads a protocol: why there is none, or what is answered of it
 pub data Reads (input : Change) (Answers : Protocol → Answer → Type 0) (a : Answer) : Type 0 where

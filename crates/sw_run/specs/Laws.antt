@@ -1,16 +1,17 @@
 -- The laws of the endings: the causes of different answers never stand together, and the words and the bytes of the input fix the answer.
-use Rattle.std.specs.Prelude.{◌≡◌, ◌⊎◌, ◌<◌, ◌≤◌, ℕ, true, false, List, length, Option, Some, None, Err}
+use Rattle.std.specs.Prelude.{◌≡◌, ◌⊎◌, ◌<◌, ◌≤◌, ℕ, true, false, List, [], ◌∷◌, ◌++◌, map, length, Option, Some, None}
+use Rattle.sw_logic.specs.declared.syntax.Formula.{Formula}
 use Rattle.sw_meaning.specs.declared.protocol.Protocol.{Protocol}
-use Rattle.sw_protocol.specs.declared.texts.ProtocolError.{ProtocolError}
-use Rattle.sw_protocol.specs.Texts.{HasProtocol, IsText}
+use Rattle.sw_meaning.specs.Verdict.{Word}
+use Rattle.sw_protocol.specs.Stratified.{IsText}
 use Rattle.sw_words.specs.declared.commands.Command.{Command}
 use Rattle.sw_words.specs.declared.commands.Command.TheVariants.{Synth, Print}
 use Rattle.sw_words.specs.declared.commands.Options.{Options}
 use Rattle.sw_meaning.specs.declared.template.Template.{Template}
 use Rattle.sw_meaning.specs.Small.{IsSmall}
 use Rattle.sw_run.specs.Words.{NamesBy, is_plain, is_served, asks_check}
-use Rattle.sw_run.specs.Refusals.{input_refusal}
-use Rattle.sw_run.specs.Ending.{Change, Answer, Reads, Searches, Reports, Prints, IsUnbuilt, IsTooLong, IsUntouched, Allowed, AllowedCheck, refused}
+use Rattle.sw_edge.specs.Edge.{Rose}
+use Rattle.sw_run.specs.Ending.{Change, Answer, Faults, Reads, Searches, Reports, Prints, IsUnbuilt, IsTooLong, IsUntouched, Allowed, AllowedCheck, Ends, refused, word_status}
 use Rattle.sw_run.specs.declared.input.TheConstants.{INPUT_LIMIT}
 use Rattle.sw_run.specs.declared.told.Refusal.{Refusal}
 use Rattle.sw_run.specs.declared.told.Refusal.TheVariants.{Usage, TooLong, Unbuilt, ReadFault, NoMemory}
@@ -49,7 +50,7 @@ pub record WordsChoose (command : Option Command) (input : Change) (a : Answer) 
 -- leave out
 pub record InputChooses (input : Change) (bytes : List ℕ) (Answers : Protocol → Answer → Type 0) (a : Answer) : Type 0 where
   pub too_long : INPUT_LIMIT < length bytes → Reads input Answers a → (a ≡ refused TooLong) ⊎ (a ≡ refused ReadFault)
-  pub faulty : (e : ProtocolError) → length bytes ≤ INPUT_LIMIT → HasProtocol bytes (Err e) → Reads input Answers a → (a ≡ refused (input_refusal e)) ⊎ (a ≡ refused ReadFault)
+  pub faulty : (refusal : Refusal) → length bytes ≤ INPUT_LIMIT → Faults bytes refusal → Reads input Answers a → (a ≡ refused refusal) ⊎ (a ≡ refused ReadFault)
   pub spelled : (p : Protocol) → length bytes ≤ INPUT_LIMIT → IsText bytes p → Reads input Answers a → Answers p a ⊎ (a ≡ refused ReadFault)
   pub taken : Tells input → IsTooLong input → Reads input Answers a → a ≡ refused TooLong
 
@@ -76,3 +77,28 @@ OneAnswer =
     (command : Option Command) (i j : Change) (bytes : List ℕ) (a b : Answer) → i.before ≡ Some bytes → j.before ≡ Some bytes
     → (Allowed command i a → Allowed command j b → (IsLost a ⊎ IsLost b) ⊎ (a ≡ b))
     × (AllowedCheck command i a → AllowedCheck command j b → (IsLost a ⊎ IsLost b) ⊎ (a ≡ b))
+
+-- the sink failed
+abbrev pub Failed : Change → Type 0
+Failed o = Rose o.faults_before o.faults_now
+
+-- what a run leaves in two sinks that told that they held these bytes: where neither failed, the
+-- status is an answer's, and they gained its text and its line; and the status 6 says that one of
+-- them failed, and that the other one is as it was
+pub record IsTold (allowed : Answer → Type 0) (out err : Change) (status : ℕ) (text line : List ℕ) : Type 0 where
+  pub whole : (Failed out → ⊥) → (Failed err → ⊥)
+      → (a : Answer) × allowed a × (status ≡ a.status) × (out.now ≡ Some (text ++ a.text)) × (err.now ≡ Some (line ++ a.line))
+  pub failed : status ≡ 6 → (Failed out × (err.now ≡ Some line)) ⊎ (Failed err × (out.now ≡ Some text))
+
+-- the answer fixes the status and what the sinks gain
+abbrev pub AnswerIsTold : Type 0
+AnswerIsTold =
+    (command : Option Command) (input out err : Change) (status : ℕ) (text line : List ℕ) → out.before ≡ Some text → err.before ≡ Some line
+    → (Ends (Allowed command input) out err status → IsTold (Allowed command input) out err status text line)
+    × (Ends (AllowedCheck command input) out err status → IsTold (AllowedCheck command input) out err status text line)
+
+-- safety that is shown has the status 0, with a further formula too; safety that is left open has 10,
+-- and an unsafe start has 11
+abbrev pub WordsHaveStatuses : Type 0
+WordsHaveStatuses =
+    (f : Formula) → map word_status (Word.violated ∷ Word.safe ∷ Word.safe_with f ∷ Word.exhausted ∷ Word.unsettled ∷ []) ≡ 11 ∷ 0 ∷ 0 ∷ 10 ∷ 10 ∷ []

@@ -12,7 +12,7 @@ use Rattle.sw_protocol.specs.declared.texts.ProtocolError.{ProtocolError}
 use Rattle.sw_run.specs.declared.faults.Fault.{Fault}
 use Rattle.sw_run.specs.declared.faults.Fault.TheVariants as fault
 use Rattle.sw_run.specs.declared.told.Refusal.{Refusal}
-use Rattle.sw_run.specs.declared.told.Refusal.TheVariants.{Usage, TooLong, Faulty, Unbuilt, ReadFault, NoMemory}
+use Rattle.sw_run.specs.declared.told.Refusal.TheVariants.{Usage, TooLong, Faulty, NotStratified, Unbuilt, ReadFault, NoMemory}
 
 abbrev pub words_refusal : WordsError → Refusal
 words_refusal words.Usage = Usage
@@ -23,12 +23,13 @@ read_refusal error.ReadFault = ReadFault
 read_refusal error.TooLong = TooLong
 read_refusal (error.Memory e) = NoMemory
 
--- what is wrong with the text of the input, and where
+-- what is wrong with the words, the names or the sorts of the input, and where
 abbrev pub input_refusal : ProtocolError → Refusal
 input_refusal (ProtocolError.BadByte at) = Faulty fault.BadByte at
 input_refusal (ProtocolError.Syntax at) = Faulty fault.Syntax at
 input_refusal (ProtocolError.TooDeep at) = Faulty fault.TooDeep at
 input_refusal (ProtocolError.Broken v) = Faulty (fault.Broken v.rule) v.at
+input_refusal (ProtocolError.NotStratified sort) = NoMemory
 input_refusal ProtocolError.Memory = NoMemory
 
 abbrev pub rule_text : Rule → List ℕ
@@ -49,10 +50,14 @@ fault_text (fault.Broken r) = rule_text r
 abbrev pub fault_line : Fault → ℕ → List ℕ
 fault_line f at = line (codes "swiss: " ++ fault_text f ++ codes " at " ++ decimal at)
 
+abbrev pub cycle_line : List ℕ → List ℕ
+cycle_line name = line (codes "swiss: NotStratified " ++ name)
+
 abbrev pub refusal_status : Refusal → ℕ
 refusal_status Usage = 2
 refusal_status TooLong = 3
 refusal_status (Faulty f at) = 3
+refusal_status (NotStratified name) = 3
 refusal_status Unbuilt = 3
 refusal_status ReadFault = 5
 refusal_status NoMemory = 7
@@ -61,6 +66,7 @@ abbrev pub refusal_line : Refusal → List ℕ
 refusal_line Usage = line (codes "usage: swiss synth|certify [--breadth TEXT] [--finish TEXT] [--workers N] [--conflicts K], check, print, space TEXT, drill N [--workers N]")
 refusal_line TooLong = line (codes "swiss: input too long")
 refusal_line (Faulty f at) = fault_line f at
+refusal_line (NotStratified name) = cycle_line name
 refusal_line Unbuilt = line (codes "swiss: Unbuilt")
 refusal_line ReadFault = line (codes "swiss: read fault")
 refusal_line NoMemory = line (codes "swiss: out of memory")

@@ -1,8 +1,9 @@
 //! The faults of an input's text, and the lines that tell them.
 ghost use Rattle.std.specs.Prelude.{◌≡◌, IfOk, string_bytes};
-ghost use Rattle.sw_run.specs.Refusals.{rule_text, fault_text, fault_line};
+ghost use Rattle.sw_run.specs.Refusals.{rule_text, fault_text, fault_line, cycle_line};
 
 use std::alloc::{AllocError, Global};
+use sw_logic::Name;
 use sw_text::Rule;
 
 /// What is wrong with the text of an input.
@@ -51,4 +52,12 @@ impl Fault {
         let name = self.name();
         format!(in alloc; "swiss: {name} at {at}\n")
     }
+}
+
+/// The line that tells of a sort on a cycle.
+pub fn cycle_line(alloc: Global, name: &Name) -> Result<String, AllocError>
+    ensures { IfOk result (λ text. string_bytes text ≡ cycle_line name.now) }
+{
+    let sort = name.as_str();
+    format!(in alloc; "swiss: NotStratified {sort}\n")
 }

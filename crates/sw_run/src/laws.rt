@@ -1,5 +1,5 @@
 //! The laws of the endings. Each function does nothing, and its contract is a law.
-ghost use Rattle.sw_run.specs.Laws.{RowsExcludeEachOther, OneReport, OneAnswer};
+ghost use Rattle.sw_run.specs.Laws.{RowsExcludeEachOther, OneReport, OneAnswer, AnswerIsTold, WordsHaveStatuses};
 
 /// No two causes stand together, so each answer comes exactly where its cause does, but for faults
 /// and want of memory.
@@ -15,4 +15,15 @@ pub fn one_report()
 /// The words and the bytes of the input fix the answer, but for want of memory and failed reads.
 pub fn one_answer()
     ensures { OneAnswer }
+{}
+
+/// The answer fixes the status and what the sinks gain, where neither fails; where one fails, the
+/// other one is as it was.
+pub fn answer_is_told()
+    ensures { AnswerIsTold }
+{}
+
+/// The status of a report is that of its word.
+pub fn words_have_statuses()
+    ensures { WordsHaveStatuses }
 {}

@@ -14,6 +14,3 @@ pub use faults::Fault;
 pub use report::Report;
 pub use told::{Refusal, tell};
 pub use top::{Status, run, run_check};
-
-#[cfg(test)]
-mod tests;

@@ -16,7 +16,7 @@ use sw_logic::Signature;
 use sw_meaning::Protocol;
 
 /// A report: the status that the program ends with, and the whole text.
-#[derive(Debug, Drop)]
+#[derive(Drop)]
 pub struct Report {
     pub status: u8,
     pub text: String,

@@ -2,10 +2,11 @@
 ghost use Rattle.std.specs.Prelude.{◌≡◌};
 ghost use Rattle.sw_run.specs.Ending.{answer_of, Ends, Writes, TellsRefusal, IsOrLacksMemory, change};
 
-use crate::faults::Fault;
+use crate::faults::{Fault, cycle_line};
 use crate::report::Report;
 use std::alloc::{AllocError, Global};
 use sw_edge::{ReadError, Sink, write_all};
+use sw_logic::Name;
 use sw_protocol::ProtocolError;
 use sw_words::WordsError;
 
@@ -13,12 +14,14 @@ use sw_words::WordsError;
 const WRITE_FAULT: u8 = 6;
 
 /// Why no report comes.
-#[derive(Clone, Copy, Debug, PartialEq, Eq)]
+#[derive(Drop)]
 pub enum Refusal {
     Usage,
     TooLong,
     /// The text of the input has this fault at this byte, from 0.
     Faulty(Fault, u32),
+    /// The functions and existential quantifiers lead from the sort of this name back to itself.
+    NotStratified(Name),
     Unbuilt,
     ReadFault,
     NoMemory,
@@ -72,6 +75,7 @@ impl From<ProtocolError> for Refusal {
             ProtocolError::Syntax { at } => Refusal::Faulty(Fault::Syntax, at),
             ProtocolError::TooDeep { at } => Refusal::Faulty(Fault::TooDeep, at),
             ProtocolError::Broken(broken) => Refusal::Faulty(Fault::Broken(broken.rule), broken.at),
+            ProtocolError::NotStratified { .. } => Refusal::NoMemory,
             ProtocolError::Memory => Refusal::NoMemory,
         }
     }
@@ -98,9 +102,20 @@ fn tell_fault<E: Sink>(alloc: Global, fault: Fault, at: u32, err: &mut E) -> u8
     }
 }
 
+// Writes the line of a sort on a cycle, or that memory ran out before the line was made.
+fn tell_cycle<E: Sink>(alloc: Global, name: &Name, err: &mut E) -> u8
+    ensures { TellsRefusal (Refusal.NotStratified name.now)
+        (change (E.held err.old) (E.held err.new) (E.faults err.old) (E.faults err.new)) result }
+{
+    match cycle_line(alloc, name) {
+        Ok(line) => write_text(err, line.as_str(), 3),
+        Err(_) => write_text(err, "swiss: out of memory\n", 7),
+    }
+}
+
 // Writes the line of a refusal, and gives the status to end with.
-fn tell_refusal<E: Sink>(alloc: Global, refusal: Refusal, err: &mut E) -> u8
-    ensures { TellsRefusal refusal
+fn tell_refusal<E: Sink>(alloc: Global, refusal: &Refusal, err: &mut E) -> u8
+    ensures { TellsRefusal refusal.now
         (change (E.held err.old) (E.held err.new) (E.faults err.old) (E.faults err.new)) result }
 {
     match refusal {
@@ -110,7 +125,8 @@ fn tell_refusal<E: Sink>(alloc: Global, refusal: Refusal, err: &mut E) -> u8
             2,
         ),
         Refusal::TooLong => write_text(err, "swiss: input too long\n", 3),
-        Refusal::Faulty(fault, at) => tell_fault(alloc, fault, at, err),
+        Refusal::Faulty(fault, at) => tell_fault(alloc, *fault, *at, err),
+        Refusal::NotStratified(name) => tell_cycle(alloc, name, err),
         Refusal::Unbuilt => write_text(err, "swiss: Unbuilt\n", 3),
         Refusal::ReadFault => write_text(err, "swiss: read fault\n", 5),
         Refusal::NoMemory => write_text(err, "swiss: out of memory\n", 7),
@@ -132,6 +148,6 @@ pub fn tell<O: Sink, E: Sink>(
 {
     match told {
         Ok(report) => write_text(out, report.text.as_str(), report.status),
-        Err(refusal) => tell_refusal(alloc, *refusal, err),
+        Err(refusal) => tell_refusal(alloc, refusal, err),
     }
 }

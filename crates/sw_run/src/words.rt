@@ -6,7 +6,7 @@ ghost use Rattle.sw_run.specs.Words.{is_blank, is_plain, NamesTemplate, IsAsked}
 use sw_words::Options;
 
 /// What the text of `--breadth` asks for.
-#[derive(Clone, Copy, Debug, PartialEq, Eq)]
+#[derive(Clone, Copy)]
 pub enum Asked {
     /// The template `literals k`, by its k, or no template.
     Served(Option<u32>),

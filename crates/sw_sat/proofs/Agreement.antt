@@ -7,8 +7,8 @@ use Rattle.std.proofs.lemmas.List.Elements.{Contains-append_left, Contains-push,
 use Rattle.sw_refute.specs.declared.clauses.Lit.{Lit}
 use Rattle.sw_sat.specs.declared.trail.Entry.{Entry}
 use Rattle.sw_sat.specs.Trail.{literals}
-use Rattle.sw_sat.proofs.Negation.{same_literal}
-use Rattle.sw_sat.proofs.Positions.{get_append_at}
+use Rattle.sw_refute.proofs.Literals.{same_literal}
+use Rattle.sw_lists.proofs.Places.{get_append_at}
 
 pub literals_push : (entries : List Entry) (e : Entry) → literals (entries ++ e ∷ []) ≡ literals entries ++ e.lit ∷ []
 literals_push entries e = map_push (λ (x : Entry). x.lit) entries e

@@ -11,7 +11,7 @@ use Rattle.sw_sat.specs.declared.propagate.Standing.{Standing}
 use Rattle.sw_sat.specs.declared.propagate.Standing.TheVariants as standing
 use Rattle.sw_sat.specs.Standing.{StandsAs}
 use Rattle.sw_sat.specs.Trail.{IsUnassigned, IsOpenClause}
-use Rattle.sw_sat.proofs.Negation.{same_literal}
+use Rattle.sw_refute.proofs.Literals.{same_literal}
 
 -- no literal of the front is true, and no two are unassigned
 abbrev pub StandsSoFar : List Lit → List Lit → Standing → Type 0

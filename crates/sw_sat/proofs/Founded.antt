@@ -13,8 +13,10 @@ use Rattle.sw_refute.specs.declared.clauses.Clause.{Clause}
 use Rattle.sw_refute.specs.Satisfaction.{variable, negation, IsOver}
 use Rattle.sw_sat.specs.declared.trail.Entry.{Entry}
 use Rattle.sw_sat.specs.Trail.{literals, IsUnassigned, IsSettled, MayFollow, IsTrail, IsDecision}
-use Rattle.sw_sat.proofs.Negation.{negation_twice, negation_differs, same_variable, number_below}
-use Rattle.sw_sat.proofs.Positions.{get_take, get_append_left, get_push_cases, Stands, stands, among_front, front_grows}
+use Rattle.sw_sat.proofs.Negation.{negation_differs, same_variable, number_below}
+use Rattle.sw_refute.proofs.Literals.{negation_twice}
+use Rattle.sw_sat.proofs.Positions.{Stands, stands, among_front, front_grows}
+use Rattle.sw_lists.proofs.Places.{get_take, get_append_left, get_push_cases}
 
 pub read_at : {X : Type 0} (xs : List X) (i : ℕ) (x : X) → i < length xs → x ≡ get_or xs i x → slice_get xs i ≡ Some x
 read_at xs i x h e = slice_get-get_or xs i x h ∙ ap (λ y. Some y) (sym e)

@@ -1,5 +1,5 @@
 -- What is learnt at the first unique implication point.
-use Rattle.std.specs.Prelude.{◌≡◌, ◌+◌, ◌<◌, ◌≤◌, ◌⊎◌, ℕ, Bool, List, [], ◌∷◌, length, take, map, reverse, Some, slice_get, All, Contains}
+use Rattle.std.specs.Prelude.{◌≡◌, ◌+◌, ◌<◌, ◌≤◌, ◌⊎◌, ℕ, Bool, List, [], length, take, map, reverse, Some, slice_get, All, Contains}
 use Rattle.std.proofs.Common.{sym, ap, ◌∙◌, inl, inr, subst, ⊎_elim, arith}
 use Rattle.std.proofs.lemmas.Bool.{cases_lt, cases_eq}
 use Rattle.std.proofs.lemmas.List.Elements.{All-contains}
@@ -15,18 +15,10 @@ use Rattle.sw_sat.specs.Answers.{IsPartOf, ContainsNone}
 use Rattle.sw_sat.specs.Analysis.{IsSeen, IsSeenAt, IsSeenBetween, IsUnique, Leads, IsCut, NegatesSeen, IsLearnt}
 use Rattle.sw_sat.specs.Trail.{literals, IsUnassigned, IsTrueClause, IsOpenClause, IsSettled, IsConflict, IsTrail, IsDecision, IsLastDecision}
 use Rattle.sw_sat.proofs.Founded.{consistent, free_before, later_apart}
-use Rattle.sw_sat.proofs.Negation.{negation_twice, variable_negation}
-use Rattle.sw_sat.proofs.Positions.{all_of, contains_get, stands, Stands, stands_below, StandsBelow, among_front, front_grows, front_among, contains_cons, contains_head, contains_tail}
-
-pub contains_map : {X Y : Type 0} (f : X → Y) (xs : List X) (x : X) → Contains xs x → Contains (map f xs) (f x)
-contains_map f [] x (k, h, e) = absurd (omega arith)
-contains_map f (y ∷ xs) x c = ⊎_elim (λ (i : x ≡ y). subst (λ z. Contains (f y ∷ map f xs) (f z)) (sym i) (contains_head (f y) (map f xs)))
-    (λ d. contains_tail (f y) (map f xs) (f x) (contains_map f xs x d)) (contains_cons y xs x c)
-
-pub contains_unmap : {X Y : Type 0} (f : X → Y) (xs : List X) (y : Y) → Contains (map f xs) y → (x : X) × Contains xs x × (f x ≡ y)
-contains_unmap f [] y (k, h, e) = absurd (omega arith)
-contains_unmap f (x ∷ xs) y c = ⊎_elim (λ (i : y ≡ f x). (x, contains_head x xs, sym i))
-    (λ d. let r = contains_unmap f xs y d in (r.0, contains_tail x xs r.0 r.1, r.2)) (contains_cons (f x) (map f xs) y c)
+use Rattle.sw_sat.proofs.Negation.{variable_negation}
+use Rattle.sw_refute.proofs.Literals.{negation_twice}
+use Rattle.sw_sat.proofs.Positions.{stands, Stands, stands_below, StandsBelow, among_front, front_grows, front_among}
+use Rattle.sw_lists.proofs.Members.{all_of, contains_get, contains_map, contains_unmap}
 
 module _ (variables : ℕ) (clauses : List Clause) (entries : List Entry) (trail : IsTrail variables clauses entries) where
   -- a conflict has a literal that was assigned at the last level
@@ -52,17 +44,6 @@ module _ (variables : ℕ) (clauses : List Clause) (entries : List Entry) (trail
           (stands entries (negation o.first) (All-contains (IsFalse (literals entries)) f.clause.lits o.first f.false o.among.0))
 
   -- a conflict without decisions is shown by the empty clause
-  pub refutes : (seen : List Bool) (used : List ℕ) (s : Derived) → Leads clauses entries seen used 0 → s.clause.lits ≡ [] → s.hints ≡ reverse used → IsAccepted variables clauses s
-  refutes seen used s leads none hints = record {
-    over = λ k d h. absurd (empty (subst (λ ls. k < length ls) none h));
-    consistent = λ l c m. absurd (empty (subst (λ ls. c.0 < length ls) none c.1));
-    propagates = subst (λ h. Propagates clauses (map negation s.clause.lits) h) (sym hints) (subst (λ ls. Propagates clauses (map negation ls) (reverse used)) (sym none)
-        (leads.each [] (λ l c. absurd (empty c.1)) (λ l c m. absurd (empty c.1))));
-  }
-    where
-      empty : {k : ℕ} → k < 0 → ⊥
-      empty h = omega arith
-
   module _ (seen : List Bool) (used : List ℕ) (start unique keep : ℕ) (c : Clause) (last : IsLastDecision entries start) (one : IsUnique seen entries start unique) (low : start ≤ unique)
       (leads : Leads clauses entries seen used (unique + 1)) (cut : IsCut seen entries start keep) (negates : NegatesSeen seen (literals (take (unique + 1) entries)) c) where
     abbrev Among : Lit → Type 0

@@ -1,8 +1,7 @@
 -- The assignment of a trail on which every variable is assigned.
 use Rattle.std.specs.Prelude.{◌≡◌, ◌+◌, ◌%◌, ◌<◌, ◌↔◌, ℕ, Bool, true, false, not, List, [], ◌∷◌, ◌++◌, length, IsTrue, Contains}
-use Rattle.std.specs.List.{list_any, list_all}
-use Rattle.std.proofs.Common.{refl, sym, ap, ◌∙◌, subst, ⊎_elim, get_or, arith}
-use Rattle.std.proofs.lemmas.Bool.{cases_eq, and_from, or_left, or_right, cond-true, cond-false, eq-eqb, ne_eqb, false_from_ne_true}
+use Rattle.std.proofs.Common.{sym, ap, ◌∙◌, subst, ⊎_elim, get_or, arith}
+use Rattle.std.proofs.lemmas.Bool.{cases_eq, cond-true, cond-false, eq-eqb, ne_eqb, false_from_ne_true}
 use Rattle.std.proofs.lemmas.List.{length_push, get_or_append_left, get_or_push}
 use Rattle.std.proofs.lemmas.List.Elements.{All-contains}
 use Rattle.sw_refute.specs.declared.clauses.Clause.{Clause}
@@ -16,8 +15,11 @@ use Rattle.sw_sat.specs.Answers.{assignment_of, IsModel}
 use Rattle.sw_sat.specs.Progress.{positive, negative, IsTotal, IsValuation}
 use Rattle.sw_sat.specs.Trail.{literals, IsUnassigned, IsTrueClause, IsOpenClause, IsFixpoint, IsTrail}
 use Rattle.sw_sat.proofs.Founded.{consistent, over_at}
-use Rattle.sw_sat.proofs.Negation.{same_literal, same_variable, negation_cases, negation_twice}
-use Rattle.sw_sat.proofs.Positions.{contains_get, contains_cons, contains_head, contains_tail, get_append_left}
+use Rattle.sw_sat.proofs.Negation.{same_variable, negation_cases}
+use Rattle.sw_refute.proofs.Literals.{same_literal, negation_twice}
+use Rattle.sw_lists.proofs.Members.{contains_get}
+use Rattle.sw_lists.proofs.Tests.{all_from, any_true}
+use Rattle.sw_lists.proofs.Places.{get_append_left}
 
 pub valuation_more : (old new : List Bool) (known : List Lit) (n : ℕ) (b : Bool) → IsValuation old known n → IsTrue b ↔ Contains known (positive n) → new ≡ old ++ b ∷ [] → IsValuation new known (n + 1)
 valuation_more old new known n b a is e = record {
@@ -29,17 +31,6 @@ valuation_more old new known n b a is e = record {
       subst (λ (c : Bool). (c ≡ true) ↔ Contains known (positive v)) (sym (get_or_append_left old (b ∷ []) false v (subst (λ m. v < m) (sym a.size) k))) (a.each v k))
       (cases_eq v n));
 }
-
-all_of_list : {X : Type 0} (p : X → Bool) (xs : List X) → ((x : X) → Contains xs x → p x ≡ true) → list_all p xs ≡ true
-all_of_list p [] f = refl
-all_of_list p (x ∷ xs) f = and_from (p x) (list_all p xs) (f x (contains_head x xs)) (all_of_list p xs (λ y c. f y (contains_tail x xs y c)))
-
-any_of_list : {X : Type 0} (p : X → Bool) (xs : List X) (x : X) → Contains xs x → p x ≡ true → list_any p xs ≡ true
-any_of_list p [] x c t = absurd (none c)
-  where
-    none : Contains [] x → ⊥
-    none (k, h, e) = omega arith
-any_of_list p (y ∷ xs) x c t = ⊎_elim (λ (i : x ≡ y). or_left (p y) (list_any p xs) (subst (λ z. p z ≡ true) i t)) (λ d. or_right (p y) (list_any p xs) (any_of_list p xs x d t)) (contains_cons y xs x c)
 
 -- a literal whose variable is assigned is not unassigned
 assigned : (known : List Lit) (a b : Lit) → variable a ≡ variable b → Contains known b → IsUnassigned known a → ⊥
@@ -68,13 +59,13 @@ module _ (cnf : Cnf) (clauses : List Clause) (entries : List Entry) (values : Li
   pub is_model : (steps : List Derived) → IsWellFormed cnf → IsFixpoint (cnf.clauses ++ clauses_of steps) (literals entries) → IsModel cnf values
   is_model steps well fixpoint = record {
     total = valuation.size;
-    holds = all_of_list (clause_holds (assignment_of values)) cnf.clauses (λ c a. let g = contains_get cnf.clauses c a in
+    holds = all_from (clause_holds (assignment_of values)) cnf.clauses (λ c a. let g = contains_get cnf.clauses c a in
         ⊎_elim (is_true c (over_at cnf.variables cnf.clauses g.0 c well g.1)) (λ o. absurd (is_open c (over_at cnf.variables cnf.clauses g.0 c well g.1) o))
         (fixpoint g.0 c (get_append_left cnf.clauses (clauses_of steps) g.0 c g.1)));
   }
     where
       is_true : (c : Clause) → IsOver cnf.variables c → IsTrueClause (literals entries) c → clause_holds (assignment_of values) c ≡ true
-      is_true c over t = any_of_list (lit_holds (assignment_of values)) c.lits t.lit t.among (lit_true t.lit (All-contains (λ (m : Lit). variable m < cnf.variables) c.lits t.lit over t.among) t.holds)
+      is_true c over t = any_true (lit_holds (assignment_of values)) c.lits t.lit t.among (lit_true t.lit (All-contains (λ (m : Lit). variable m < cnf.variables) c.lits t.lit over t.among) t.holds)
 
       is_open : (c : Clause) → IsOver cnf.variables c → IsOpenClause (literals entries) c → ⊥
       is_open c over o =

@@ -4,9 +4,7 @@ use Rattle.std.proofs.Common.{refl, ap, inl, inr, zero, suc, ⊎_elim, arith}
 use Rattle.std.proofs.lemmas.Bool.Decides.{nat_tests}
 use Rattle.sw_refute.specs.declared.clauses.Lit.{Lit}
 use Rattle.sw_refute.specs.Satisfaction.{variable, negation}
-
-pub same_literal : (a b : Lit) → a.0 ≡ b.0 → a ≡ b
-same_literal a b e = let f : ℕ → Lit = λ n. record { 0 = n } in ap f e
+use Rattle.sw_refute.proofs.Literals.{same_literal}
 
 number_even : (n : ℕ) → n % 2 ≡ 0 → (if n % 2 == 0 then n + 1 else n - 1) ≡ n + 1
 number_even n e = grind (arith, nat_tests)
@@ -27,16 +25,6 @@ negation_cases l = ⊎_elim (λ e. inl (e, number_even l.0 e)) (λ e. let o : (n
 
 pub variable_negation : (l : Lit) → variable (negation l) ≡ variable l
 variable_negation l = ⊎_elim (λ (h : (l.0 % 2 ≡ 0) × ((negation l).0 ≡ l.0 + 1)). omega arith) (λ (h : (l.0 % 2 ≡ 1) × ((negation l).0 + 1 ≡ l.0)). omega arith) (negation_cases l)
-
-pub negation_twice : (l : Lit) → negation (negation l) ≡ l
-negation_twice l = same_literal (negation (negation l)) l (go (negation_cases l) (negation_cases (negation l)))
-  where
-    go : ((l.0 % 2 ≡ 0) × ((negation l).0 ≡ l.0 + 1)) ⊎ ((l.0 % 2 ≡ 1) × ((negation l).0 + 1 ≡ l.0))
-        → (((negation l).0 % 2 ≡ 0) × ((negation (negation l)).0 ≡ (negation l).0 + 1)) ⊎ (((negation l).0 % 2 ≡ 1) × ((negation (negation l)).0 + 1 ≡ (negation l).0)) → (negation (negation l)).0 ≡ l.0
-    go (inl a) (inl b) = omega arith
-    go (inl a) (inr b) = omega arith
-    go (inr a) (inl b) = omega arith
-    go (inr a) (inr b) = omega arith
 
 pub negation_differs : (l : Lit) → l ≡ negation l → ⊥
 negation_differs l e = let f : l.0 ≡ (negation l).0 = ap (λ (x : Lit). x.0) e in

@@ -11,7 +11,8 @@ use Rattle.sw_refute.specs.Propagation.{IsConflicting, IsUnit, Propagates}
 use Rattle.sw_sat.specs.declared.trail.Entry.{Entry}
 use Rattle.sw_sat.specs.Analysis.{IsSeen, KeepsSeen, IsSeenAt, Leads}
 use Rattle.sw_sat.specs.Trail.{literals, Forces}
-use Rattle.sw_sat.proofs.Positions.{stands_below, StandsBelow, among_front, front_grows, contains_cons, contains_head, contains_tail}
+use Rattle.sw_sat.proofs.Positions.{stands_below, StandsBelow, among_front, front_grows}
+use Rattle.sw_lists.proofs.Members.{contains_cons, contains_head, contains_tail}
 
 module _ (clauses : List Clause) (entries : List Entry) where
   pub begins : (seen : List Bool) (used : List ℕ) (number : ℕ) (c : Clause) → slice_get clauses number ≡ Some c → IsConflicting (literals entries) c

@@ -8,17 +8,14 @@ use Rattle.std.proofs.lemmas.List.Elements.{Contains-append_left as lit_left_of,
 use Rattle.sw_refute.specs.declared.clauses.Lit.{Lit}
 use Rattle.sw_refute.specs.Satisfaction.{negation}
 use Rattle.sw_sat.specs.declared.trail.Entry.{Entry}
-use Rattle.sw_sat.specs.Analysis.{IsSeen, KeepsSeen, IsSeenAt, IsSeenBetween, NoneSeenBetween, IsCut, NegatesSeen}
+use Rattle.sw_sat.specs.Analysis.{IsSeen, KeepsSeen, IsSeenAt, NoneSeenBetween, IsCut, NegatesSeen}
 use Rattle.sw_sat.specs.Trail.{literals, IsDecision}
 use Rattle.sw_sat.proofs.Agreement.{push_cases, push_left, push_right}
-use Rattle.sw_sat.proofs.Negation.{negation_twice}
+use Rattle.sw_refute.proofs.Literals.{negation_twice}
 
 pub seen_set : (seen : List Bool) (n : ℕ) → n < length seen → KeepsSeen seen (set seen n true)
 seen_set seen n h l m = ⊎_elim (λ (e : l.0 ≡ n). subst (λ k. get_or (set seen n true) k false ≡ true) (sym e) (get_or-set_same seen n true false h))
     (λ (d : l.0 ≡ n → ⊥). get_or-set_other seen n l.0 true false d ∙ m) (cases_eq l.0 n)
-
-pub seen_now : (seen : List Bool) (l : Lit) → l.0 < length seen → IsSeen (set seen l.0 true) l
-seen_now seen l h = get_or-set_same seen l.0 true false h
 
 module _ (seen : List Bool) (entries : List Entry) where
   pub not_met_at : (at : ℕ) (e : Entry) → slice_get entries at ≡ Some e → get_or seen e.lit.0 false ≡ false → IsSeenAt seen entries at → ⊥
@@ -45,28 +42,6 @@ module _ (seen : List Bool) (entries : List Entry) where
     kept = λ k l h m. none k (omega arith) h m;
     levels = λ k h d. ⊎_elim (λ (a : k < at). record { at = at - 1; low = omega arith; high = omega arith; here = here }) (λ (b : at ≤ k). absurd (levels k b h d)) (cases_lt k at);
   }
-
-  pub cut_at_end : (keep start : ℕ) → IsDecision entries keep → keep ≤ start → NoneSeenBetween seen entries 0 start
-      → ((k : ℕ) → 0 ≤ k → k < keep → IsDecision entries k → ⊥) → IsCut seen entries start keep
-  cut_at_end keep start decision high none levels = record {
-    decision = decision;
-    within = high;
-    kept = λ k l h m. none k (omega arith) h m;
-    levels = λ k h d. absurd (levels k (omega arith) h d);
-  }
-
-  pub between_down : (start at : ℕ) → IsSeenBetween seen entries start (at + 1) → (IsSeenAt seen entries at → ⊥) → IsSeenBetween seen entries start at
-  between_down start at some none =
-      let high : some.at < at + 1 = some.high in
-      ⊎_elim (λ (e : some.at ≡ at). absurd (none (subst (IsSeenAt seen entries) e some.here))) (λ (d : some.at ≡ at → ⊥). record { at = some.at; low = some.low; high = omega arith; here = some.here }) (cases_eq some.at at)
-
-pub between_keeps : (old new : List Bool) (entries : List Entry) (from to : ℕ) → KeepsSeen old new → IsSeenBetween old entries from to → IsSeenBetween new entries from to
-between_keeps old new entries from to keeps some = record {
-  at = some.at;
-  low = some.low;
-  high = some.high;
-  here = record { entry = some.here.entry; is = some.here.is; is_seen = keeps some.here.entry.lit some.here.is_seen };
-}
 
 module _ (seen : List Bool) where
   -- the clause that negates what was seen, with one more entry

@@ -25,8 +25,10 @@ use Rattle.sw_sat.specs.Progress.{weight, left, IsSearch, Turns, Decides, GoesBa
 use Rattle.sw_sat.specs.Trail.{literals, all_clauses, IsFixpoint, MayFollow, IsTrail, IsPlain, IsState, Grows}
 use Rattle.sw_sat.proofs.Founded.{short, front_trail}
 use Rattle.sw_sat.proofs.Negation.{number_below}
-use Rattle.sw_sat.proofs.Positions.{get_append_at}
-use Rattle.sw_sat.proofs.StepLists.{accepted_push, new_push, nonempty_push, only_last_push}
+use Rattle.sw_lists.proofs.Places.{get_append_at}
+use Rattle.sw_sat.proofs.StepLists.{new_push, only_last_push}
+use Rattle.sw_lists.proofs.Each.{each-push}
+use Rattle.sw_refute.proofs.Accepting.{accepted_push}
 use Rattle.sw_sat.proofs.Weights.{weight_below, weight_append, weight_raised, left_raised, left_longer, left_grows}
 
 pub plain_state : (variables : ℕ) (clauses : List Clause) (trail : Trail) → IsState variables clauses trail → IsPlain trail
@@ -151,7 +153,7 @@ module _ (cnf : Cnf) (budget : Option ℕ) (steps : List Derived) where
           numbered = numbered;
           state = state;
           accepted = subst (AreAccepted cnf.variables cnf.clauses) (sym is) (accepted_push cnf.variables cnf.clauses steps learnt.step f.accepted good.accepted);
-          nonempty = subst (AllByRecursion IsNonempty) (sym is) (nonempty_push steps learnt.step f.nonempty good.nonempty);
+          nonempty = subst (AllByRecursion IsNonempty) (sym is) (each-push IsNonempty steps learnt.step f.nonempty good.nonempty);
           new = subst (AreNew cnf.clauses) (sym is) (new_push cnf.clauses steps learnt.step f.new good.new);
           few = omega (arith, f.few);
           within = subst (λ (k : ℕ). IfSome budget (λ most. k ≤ most)) (sym n) (budget_more budget (length steps) f.within unspent);

@@ -12,7 +12,7 @@ use sw_refute::{Clause, Cnf, Derived, Lit};
 
 /// What is learnt from a conflict: a step, the literal of its clause that becomes true, and how much
 /// of the trail is kept.
-#[derive(Debug, Drop)]
+#[derive(Drop)]
 pub struct Learnt {
     pub step: Derived,
     pub asserting: Lit,
@@ -21,7 +21,7 @@ pub struct Learnt {
 
 /// Which literals' negations stand in the clauses used so far, by the literals' numbers, and the numbers
 /// of these clauses: the one that conflicted, then reasons, the latest assigned first.
-#[derive(Debug, Drop)]
+#[derive(Drop)]
 pub struct Analysis {
     pub seen: Vec<bool>,
     pub hints: Vec<u32>,

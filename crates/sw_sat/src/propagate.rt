@@ -22,7 +22,7 @@ pub fn clause_at<'a>(cnf: &'a Cnf, steps: &'a [Derived], number: usize) -> &'a C
 }
 
 /// What a clause is under the true literals.
-#[derive(Clone, Copy, Debug, PartialEq, Eq)]
+#[derive(Clone, Copy, PartialEq, Eq)]
 pub enum Standing {
     /// A literal is true.
     Satisfied,
@@ -60,7 +60,7 @@ fn examine(trail: &Trail, clause: &Clause) -> Standing
 }
 
 /// What one reading of all clauses came to.
-#[derive(Clone, Copy, Debug, PartialEq, Eq)]
+#[derive(Clone, Copy, PartialEq, Eq)]
 pub enum Reading {
     /// No clause was a unit or false.
     Still,

@@ -2,7 +2,7 @@
 use sw_refute::Derived;
 
 /// The answer for a set of clauses.
-#[derive(Debug, Drop)]
+#[derive(Drop)]
 pub enum Solved {
     /// A truth value for each variable, by its number, that makes every clause true.
     Satisfied(Vec<bool>),

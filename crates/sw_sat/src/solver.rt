@@ -21,7 +21,7 @@ const MOST_CLAUSES: usize = 4_294_967_296;
 const MOST_VARIABLES: u32 = 2_147_483_648;
 
 /// What one turn of the search came to.
-#[derive(Clone, Copy, Debug, PartialEq, Eq)]
+#[derive(Clone, Copy, PartialEq, Eq)]
 pub enum Turn {
     /// The search goes on.
     On,

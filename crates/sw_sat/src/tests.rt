@@ -185,9 +185,27 @@ fn random(alloc: Global, seed: u64, count: u32) -> Result<Cnf, AllocError> {
     })
 }
 
+fn without_clauses(alloc: Global) -> Cnf {
+    Cnf {
+        variables: 0,
+        clauses: Items::new(alloc),
+    }
+}
+
+fn with_the_empty_clause(alloc: Global) -> Result<Cnf, AllocError> {
+    let mut clauses = Items::new(alloc);
+    clauses.push(clause_of(alloc, &[])?)?;
+    Ok(Cnf {
+        variables: 0,
+        clauses,
+    })
+}
+
 #[test]
 fn answers_agree_with_every_assignment(rt: HostRuntime) -> Result<(), Fail> {
     let alloc = rt.alloc();
+    answers_within_budgets(&rt, alloc, &without_clauses(alloc))?;
+    answers_within_budgets(&rt, alloc, &with_the_empty_clause(alloc)?)?;
     for (birds, holes) in [(3, 2), (3, 3), (4, 3)] {
         answers_within_budgets(&rt, alloc, &pigeons(alloc, birds, holes)?)?;
     }
@@ -198,47 +216,5 @@ fn answers_agree_with_every_assignment(rt: HostRuntime) -> Result<(), Fail> {
     for seed in 0..12 {
         answers_within_budgets(&rt, alloc, &random(alloc, seed, 46 + 2 * seed as u32)?)?;
     }
-    Ok(())
-}
-
-#[test]
-fn square_is_refuted(rt: HostRuntime) -> Result<(), Fail> {
-    let alloc = rt.alloc();
-    let mut clauses = Items::new(alloc);
-    for numbers in [[0, 2], [0, 3], [1, 2], [1, 3]] {
-        clauses.push(clause_of(alloc, &numbers)?)?;
-    }
-    let cnf = Cnf {
-        variables: 2,
-        clauses,
-    };
-    assert!(rt; is_well_formed(&cnf));
-    assert!(rt; matches!(solve(alloc, &cnf, None)?, Solved::Refuted(_)));
-    assert!(rt; matches!(solve(alloc, &cnf, Some(8))?, Solved::Refuted(_)));
-    Ok(())
-}
-
-#[test]
-fn sets_without_literals(rt: HostRuntime) -> Result<(), Fail> {
-    let alloc = rt.alloc();
-    let none = Cnf {
-        variables: 0,
-        clauses: Items::new(alloc),
-    };
-    let mut clauses = Items::new(alloc);
-    clauses.push(clause_of(alloc, &[])?)?;
-    let empty = Cnf {
-        variables: 0,
-        clauses,
-    };
-    assert!(rt; is_well_formed(&none) && is_well_formed(&empty));
-    assert_eq!(rt;
-        format!(in alloc; "{:?}", solve(alloc, &none, None)?)?.as_str(),
-        "Satisfied([])"
-    );
-    assert_eq!(rt;
-        format!(in alloc; "{:?}", solve(alloc, &empty, None)?)?.as_str(),
-        "Refuted([Derived { clause: Clause { lits: Items { items: [] } }, hints: Items { items: [0] } }])"
-    );
     Ok(())
 }

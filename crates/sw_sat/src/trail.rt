@@ -6,14 +6,14 @@ use std::alloc::{AllocError, Global};
 use sw_refute::Lit;
 
 /// A true literal, with the number of the clause that forced it. A decision has none.
-#[derive(Clone, Copy, Debug, PartialEq, Eq)]
+#[derive(Clone, Copy, PartialEq, Eq)]
 pub struct Entry {
     pub lit: Lit,
     pub reason: Option<u32>,
 }
 
 /// The entries in the order of assignment, and the truth of each literal by its number.
-#[derive(Debug, Drop)]
+#[derive(Drop)]
 pub struct Trail {
     pub entries: Vec<Entry>,
     pub values: Vec<bool>,

@@ -13,7 +13,7 @@ use std::alloc::{AllocFailed, Global};
 use thiserror::Error;
 
 /// What a token is.
-#[derive(Clone, Copy, Debug, PartialEq, Eq)]
+#[derive(Clone, Copy, PartialEq, Eq)]
 pub enum Kind {
     Name,
     Number,
@@ -34,7 +34,7 @@ pub enum Kind {
 }
 
 /// A token: its kind, the place of its first byte (from 0), and how many bytes it has.
-#[derive(Clone, Copy, Debug, PartialEq, Eq)]
+#[derive(Clone, Copy, PartialEq, Eq)]
 pub struct Token {
     pub kind: Kind,
     pub at: u32,
@@ -190,76 +190,4 @@ fn continues_name(byte: u8) -> bool
     ensures { result ≡ continues_name byte }
 {
     begins_name(byte) || byte.is_ascii_digit()
-}
-
-#[cfg(test)]
-mod tests {
-    use super::*;
-    use std::process::Abort;
-    use std::test::Fail;
-
-    #[test]
-    fn each_mark_is_a_token_and_the_longest_is_taken(rt: HostRuntime) -> Result<(), Fail> {
-        let tokens = scan(rt.alloc(), b"( ) , : ; . ' = != ! & | -> <->!==->")?;
-        let wanted = [
-            (Kind::LeftRound, 0, 1),
-            (Kind::RightRound, 2, 1),
-            (Kind::Comma, 4, 1),
-            (Kind::Colon, 6, 1),
-            (Kind::Semicolon, 8, 1),
-            (Kind::Dot, 10, 1),
-            (Kind::Prime, 12, 1),
-            (Kind::Equal, 14, 1),
-            (Kind::NotEqual, 16, 2),
-            (Kind::Not, 19, 1),
-            (Kind::And, 21, 1),
-            (Kind::Or, 23, 1),
-            (Kind::Arrow, 25, 2),
-            (Kind::DoubleArrow, 28, 3),
-            (Kind::NotEqual, 31, 2),
-            (Kind::Equal, 33, 1),
-            (Kind::Arrow, 34, 2),
-        ];
-        has_tokens(&rt, &tokens, &wanted);
-        Ok(())
-    }
-
-    #[test]
-    fn names_numbers_blanks_and_comments_are_told_apart(rt: HostRuntime) -> Result<(), Fail> {
-        let tokens = scan(rt.alloc(), b"_a1 12x\t# c $\r\nB#\n#")?;
-        let wanted = [
-            (Kind::Name, 0, 3),
-            (Kind::Number, 4, 2),
-            (Kind::Name, 6, 1),
-            (Kind::Name, 15, 1),
-        ];
-        has_tokens(&rt, &tokens, &wanted);
-        Ok(())
-    }
-
-    #[test]
-    fn a_byte_that_begins_no_token_is_bad_at_its_place(rt: HostRuntime) {
-        assert_eq!(rt; place(rt.alloc(), b"a $"), Some(2));
-        assert_eq!(rt; place(rt.alloc(), b"-"), Some(0));
-        assert_eq!(rt; place(rt.alloc(), b"a -b"), Some(2));
-        assert_eq!(rt; place(rt.alloc(), b"a <- b"), Some(2));
-        assert_eq!(rt; place(rt.alloc(), b"a<"), Some(1));
-        assert_eq!(rt; place(rt.alloc(), b"sort ; $"), Some(7));
-    }
-
-    fn has_tokens(rt: &impl Abort, tokens: &[Token], wanted: &[(Kind, u32, u32)]) {
-        assert_eq!(rt; tokens.len(), wanted.len());
-        for (token, (kind, at, len)) in tokens.iter().zip(wanted) {
-            assert_eq!(rt; token.kind, *kind);
-            assert_eq!(rt; token.at, *at);
-            assert_eq!(rt; token.len, *len);
-        }
-    }
-
-    fn place(alloc: Global, text: &[u8]) -> Option<u32> {
-        match scan(alloc, text) {
-            Err(ScanError::BadByte { at }) => Some(at),
-            _ => None,
-        }
-    }
 }

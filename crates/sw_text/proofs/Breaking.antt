@@ -2,12 +2,12 @@
 use Rattle.std.proofs.Common.{◌≡◌, ℕ, zero, suc, ◌+◌, ◌<◌, Bool, true, false, List, [], ◌∷◌, ◌++◌, length, map, take, drop, get_or, Option, Some, None, rules, refl, sym, ap, ◌∙◌}
 use Rattle.std.proofs.Math.Numerals.{add-one}
 use Rattle.std.proofs.lemmas.List.{take_more, map-append, at_drop_more}
-use Rattle.sw_text.specs.declared.words.Word.{Word}
+use Rattle.sw_trees.specs.declared.words.Word.{Word}
 use Rattle.std.specs.Prelude.{◌||◌}
-use Rattle.sw_text.specs.declared.tree.Binder.{Binder}
-use Rattle.sw_text.specs.declared.tree.TermTree as trees
-use Rattle.sw_text.specs.declared.tree.TermTree.{TermTree}
-use Rattle.sw_text.specs.declared.tree.TermTree.TheVariants as term
+use Rattle.sw_trees.specs.declared.tree.Binder.{Binder}
+use Rattle.sw_trees.specs.declared.tree.TermTree as trees
+use Rattle.sw_trees.specs.declared.tree.TermTree.{TermTree}
+use Rattle.sw_trees.specs.declared.tree.TermTree.TheVariants as term
 use Rattle.sw_text.specs.declared.names.Rule.{Rule}
 use Rattle.sw_text.specs.declared.names.Violation.{Violation}
 use Rattle.sw_text.specs.declared.names.Wanted.{Wanted}
@@ -23,11 +23,6 @@ broken_first at [] rule e = cc
 broken_first at ((true, r) ∷ rest) rule e = let same : r ≡ rule = cc in (broken at rest, ap (λ (s : Rule). record { rule = s; at = at } ∷ broken at rest) same)
 broken_first at ((false, r) ∷ rest) rule e = broken_first at rest rule e
 
-pub broken_none : (at : ℕ) (tests : List (Bool × Rule)) → first_rule tests ≡ None → broken at tests ≡ []
-broken_none at [] e = refl
-broken_none at ((true, r) ∷ rest) e = cc
-broken_none at ((false, r) ∷ rest) e = broken_none at rest e
-
 -- what begins the front begins all
 pub begins_front : (all front back : List Violation) (v : Violation) → all ≡ front ++ back → Begins front v → Begins all v
 begins_front all front back v e h = (h.0 ++ back, e ∙ ap (λ (vs : List Violation). vs ++ back) h.1)
@@ -35,9 +30,6 @@ begins_front all front back v e h = (h.0 ++ back, e ∙ ap (λ (vs : List Violat
 -- where nothing in front is broken, what begins the rest begins all
 pub begins_back : (all front back : List Violation) (v : Violation) → all ≡ front ++ back → front ≡ [] → Begins back v → Begins all v
 begins_back all front back v e n h = (h.0, e ∙ ap (λ (vs : List Violation). vs ++ back) n ∙ h.1)
-
-pub none_broken : (all front back : List Violation) → all ≡ front ++ back → front ≡ [] → back ≡ [] → all ≡ []
-none_broken all front back e n h = e ∙ ap (λ (vs : List Violation). vs ++ back) n ∙ h
 
 drop_one : (i : ℕ) (ss : List ℕ) → drop 1 (drop i ss) ≡ drop (i + 1) ss
 drop_one zero ss = refl

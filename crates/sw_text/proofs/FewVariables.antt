@@ -10,29 +10,29 @@ use Rattle.sw_logic.specs.declared.syntax.Formula as formulas
 use Rattle.sw_logic.specs.declared.syntax.Formula.{Formula}
 use Rattle.sw_logic.specs.declared.syntax.Formula.TheVariants as formula
 use Rattle.sw_logic.specs.Truth.{greatest, binds}
-use Rattle.sw_text.specs.declared.words.Word.{Word}
-use Rattle.sw_text.specs.declared.tree.Binder.{Binder}
-use Rattle.sw_text.specs.declared.tree.TermTree as term_trees
-use Rattle.sw_text.specs.declared.tree.TermTree.{TermTree, roll-TermTree}
-use Rattle.sw_text.specs.declared.tree.TermTree.TheOpen.{TermTree-F}
-use Rattle.sw_text.specs.declared.tree.TermTree.TheFolds.{ind-TermTree}
-use Rattle.sw_text.specs.declared.tree.TermTree.TheVariants as term
-use Rattle.sw_text.specs.declared.tree.TermTree.TheVariants.{rolls-Named, rolls-Applied}
-use Rattle.sw_text.specs.declared.tree.Tree as trees
-use Rattle.sw_text.specs.declared.tree.Tree.{Tree, roll-Tree}
-use Rattle.sw_text.specs.declared.tree.Tree.TheOpen.{Tree-F}
-use Rattle.sw_text.specs.declared.tree.Tree.TheFolds.{ind-Tree, fold-Tree}
-use Rattle.sw_text.specs.declared.tree.Tree.TheVariants as tree
-use Rattle.sw_text.specs.declared.tree.Tree.TheVariants.{rolls-Constant, rolls-Atom, rolls-Equal, rolls-Not, rolls-All, rolls-Any, rolls-Implies, rolls-Iff, rolls-Quantified}
+use Rattle.sw_trees.specs.declared.words.Word.{Word}
+use Rattle.sw_trees.specs.declared.tree.Binder.{Binder}
+use Rattle.sw_trees.specs.declared.tree.TermTree as term_trees
+use Rattle.sw_trees.specs.declared.tree.TermTree.{TermTree, roll-TermTree}
+use Rattle.sw_trees.specs.declared.tree.TermTree.TheOpen.{TermTree-F}
+use Rattle.sw_trees.specs.declared.tree.TermTree.TheFolds.{ind-TermTree}
+use Rattle.sw_trees.specs.declared.tree.TermTree.TheVariants as term
+use Rattle.sw_trees.specs.declared.tree.TermTree.TheVariants.{rolls-Named, rolls-Applied}
+use Rattle.sw_trees.specs.declared.tree.Tree as trees
+use Rattle.sw_trees.specs.declared.tree.Tree.{Tree, roll-Tree}
+use Rattle.sw_trees.specs.declared.tree.Tree.TheOpen.{Tree-F}
+use Rattle.sw_trees.specs.declared.tree.Tree.TheFolds.{ind-Tree, fold-Tree}
+use Rattle.sw_trees.specs.declared.tree.Tree.TheVariants as tree
+use Rattle.sw_trees.specs.declared.tree.Tree.TheVariants.{rolls-Constant, rolls-Atom, rolls-Equal, rolls-Not, rolls-All, rolls-Any, rolls-Implies, rolls-Iff, rolls-Quantified}
 use Rattle.sw_text.specs.declared.names.Head.{Head}
-use Rattle.sw_text.specs.Grammar.{Loads, Mark, Context, End, all_of, any_of, IsHead, IsTerm, AreTerms, IsBinder, AreBinders, IsAtom, IsSingle, AreSingles, AreBoths, IsImplied, IsFormula}
-use Rattle.sw_text.specs.Limits.{IsWithin}
+use Rattle.sw_trees.specs.Grammar.{Loads, Mark, Context, End, all_of, any_of, IsHead, IsTerm, AreTerms, IsBinder, AreBinders, IsAtom, IsSingle, AreSingles, AreBoths, IsImplied, IsFormula}
+use Rattle.sw_trees.specs.Limits.{IsWithin}
 use Rattle.sw_text.specs.Names.{Around, Scope, head_of, atom_by, atom_read, formula_read, bound, quantified, term_read, faults}
 use Rattle.sw_text.specs.declared.names.Violation.{Violation}
-use Rattle.sw_text.specs.declared.reader.Read.{Read}
+use Rattle.sw_trees.specs.declared.reader.Read.{Read}
 use Rattle.sw_text.specs.declared.texts.TextError.{TextError}
-use Rattle.sw_text.specs.Words.{word_of}
-use Rattle.sw_text.specs.Answers.{IsAnswer}
+use Rattle.sw_trees.specs.Words.{word_of}
+use Rattle.sw_trees.specs.Answers.{IsAnswer}
 use Rattle.sw_text.specs.Resolving.{all_read, body_read}
 use Rattle.sw_text.specs.Texts.{outcome, first_broken, base_in, place_in, HasFormula}
 use Rattle.sw_text.specs.Laws.{ReadBindsFew}
@@ -103,7 +103,7 @@ binds_any_of (x ∷ []) = omega arith
 binds_any_of (x ∷ y ∷ xs) = binds_Any (x ∷ y ∷ xs)
 
 -- none of the marks goes past a limit
-abbrev Allowed : List Mark → Type 0
+abbrev pub Allowed : List Mark → Type 0
 Allowed ms = AllByRecursion (λ (m : Mark). IsWithin m.loads) ms
 
 after_head : {ms rest : List Mark} {w : Word} {p : Bool} → IsHead ms w p rest → Allowed ms → Allowed rest
@@ -129,7 +129,7 @@ atom_binds (IsAtom.compared {t = t} {u = u} true m i s j) = binds_Not (tree.Equa
 atom_binds (IsAtom.compared {t = t} {u = u} false m i s j) = binds_Equal t u
 
 -- the marks that follow go past none, and so many variables are in scope at most
-abbrev Leaves : ℕ → List Mark → Type 0
+abbrev pub Leaves : ℕ → List Mark → Type 0
 Leaves count rest = (count ≤ VARIABLES) × Allowed rest
 
 after_binder : {v : ℕ} {ms rest : List Mark} {b : Binder} → IsBinder v ms b rest → Allowed ms → Leaves (v + 1) rest
@@ -190,7 +190,7 @@ mutual
       let all = binds_Implies (any_of xs) y in
       (omega (arith, all, same, front.0, last.0), last.1)
 
-  after_formula : {c : Context} {e : End} {i : Bool} {ms rest : List Mark} {x : Tree} → IsFormula c e i ms x rest → Allowed ms → c.variables ≤ VARIABLES → Leaves (c.variables + tree_binds x) rest
+  pub after_formula : {c : Context} {e : End} {i : Bool} {ms rest : List Mark} {x : Tree} → IsFormula c e i ms x rest → Allowed ms → c.variables ≤ VARIABLES → Leaves (c.variables + tree_binds x) rest
   after_formula (IsFormula.implied f) h g = after_implied f h g
   after_formula (IsFormula.joined {x = x} {y = y} m f t i k) h g =
       let front = after_implied f h g in

@@ -3,10 +3,10 @@ use Rattle.std.proofs.Common.{◌≡◌, List, [], ◌∷◌, ◌++◌, length, 
 use Rattle.std.proofs.lemmas.List.{take_more, map-append, at_drop_more}
 use Rattle.sw_logic.specs.declared.syntax.Formula.{Formula}
 use Rattle.sw_logic.specs.declared.syntax.Formula.TheVariants as formula
-use Rattle.sw_text.specs.declared.tree.TermTree.{TermTree}
-use Rattle.sw_text.specs.declared.tree.Tree as trees
-use Rattle.sw_text.specs.declared.tree.Tree.{Tree}
-use Rattle.sw_text.specs.declared.tree.Tree.TheVariants as tree
+use Rattle.sw_trees.specs.declared.tree.TermTree.{TermTree}
+use Rattle.sw_trees.specs.declared.tree.Tree as trees
+use Rattle.sw_trees.specs.declared.tree.Tree.{Tree}
+use Rattle.sw_trees.specs.declared.tree.Tree.TheVariants as tree
 use Rattle.sw_text.specs.declared.names.Violation.{Violation}
 use Rattle.sw_text.specs.declared.names.Wanted.TheVariants as wanted
 use Rattle.sw_text.specs.declared.resolve.Resolved.{Resolved}

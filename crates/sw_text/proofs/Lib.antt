@@ -1,11 +1,3 @@
-pub mod Reduce
-pub mod Reading
-pub mod Complete
-pub mod Sound
-pub mod Viable
-pub mod Greatest
-pub mod Answering
-pub mod OneAnswer
 pub mod Breaking
 pub mod Folding
 pub mod SortedTerms
@@ -13,13 +5,3 @@ pub mod WellSorted
 pub mod FewVariables
 pub mod OneFormula
 pub mod Numbered
-pub mod Joined
-pub mod Spacing
-pub mod Tidy
-pub mod SpeltTerms
-pub mod Measured
-pub mod SpeltForms
-pub mod SameMeaning
-pub mod Tidied
-pub mod ShownAs
-pub mod ReadsBack

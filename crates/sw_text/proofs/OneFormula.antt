@@ -7,16 +7,16 @@ use Rattle.sw_scan.specs.declared.Token.{Token}
 use Rattle.sw_scan.specs.declared.ScanError.{ScanError}
 use Rattle.sw_scan.specs.Scans.{Scans, answer_of as scanned}
 use Rattle.sw_scan.proofs.Unique.{one_scan}
-use Rattle.sw_text.specs.declared.words.Word.{Word}
-use Rattle.sw_text.specs.declared.tree.Tree.{Tree}
+use Rattle.sw_trees.specs.declared.words.Word.{Word}
+use Rattle.sw_trees.specs.declared.tree.Tree.{Tree}
 use Rattle.sw_text.specs.declared.names.Violation.{Violation}
-use Rattle.sw_text.specs.declared.reader.Read.{Read}
+use Rattle.sw_trees.specs.declared.reader.Read.{Read}
 use Rattle.sw_text.specs.declared.texts.TextError.{TextError}
-use Rattle.sw_text.specs.Words.{word_of}
-use Rattle.sw_text.specs.Answers.{IsAnswer}
+use Rattle.sw_trees.specs.Words.{word_of}
+use Rattle.sw_trees.specs.Answers.{IsAnswer}
 use Rattle.sw_text.specs.Names.{Around, Scope, reads_post, faults, formula_read}
 use Rattle.sw_text.specs.Texts.{outcome, first_broken, base_in, HasFormula, OneFormula, answer_of, place_in, sorts_of_scope}
-use Rattle.sw_text.proofs.OneAnswer.{one_answer}
+use Rattle.sw_trees.proofs.OneAnswer.{one_answer}
 use Rattle.sw_text.proofs.WellSorted.{read_is_well_sorted}
 
 module _ (a : Around) (scope : Scope) where

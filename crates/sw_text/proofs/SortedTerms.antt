@@ -14,7 +14,7 @@ use Rattle.sw_logic.specs.declared.syntax.Term.TheVariants as term
 use Rattle.sw_logic.specs.declared.syntax.Formula as formulas
 use Rattle.sw_logic.specs.declared.syntax.Formula.TheVariants as formula
 use Rattle.sw_logic.specs.Sorted.{well_sorted, sort_of, sorts_of, sorts_match, is_atom, value_sort, gives_value}
-use Rattle.sw_text.specs.declared.words.Word.{Word}
+use Rattle.sw_trees.specs.declared.words.Word.{Word}
 use Rattle.sw_text.specs.declared.names.Rule.{Rule}
 use Rattle.sw_text.specs.declared.names.Wanted.{Wanted}
 use Rattle.sw_text.specs.declared.names.Head.{Head}

@@ -1,4 +1,5 @@
 -- A formula that breaks no rule on names and sorts is well sorted.
+use Rattle.std.specs.Cmp.Derive.{both_true}
 use Rattle.std.specs.Prelude.{◌≡◌, ℕ, ◌==◌, ◌&&◌, ◌||◌, nat_lt, Bool, true, false, List, [], ◌∷◌, ◌++◌, length, map, Option, Some, None, ◌<◌}
 use Rattle.std.specs.List.{AllByRecursion, list_all}
 use Rattle.std.proofs.Common.{rules, arith, refl, sym, subst, ap, ◌∙◌}
@@ -10,20 +11,20 @@ use Rattle.sw_logic.specs.declared.syntax.Formula as formulas
 use Rattle.sw_logic.specs.declared.syntax.Formula.{Formula}
 use Rattle.sw_logic.specs.declared.syntax.Formula.TheVariants as formula
 use Rattle.sw_logic.specs.Sorted.{well_sorted, sort_of, same_sort, sorts_match, are_sorts, extended}
-use Rattle.sw_text.specs.declared.words.Word.{Word}
-use Rattle.sw_text.specs.declared.tree.TermTree as term_trees
-use Rattle.sw_text.specs.declared.tree.TermTree.{TermTree, roll-TermTree}
-use Rattle.sw_text.specs.declared.tree.TermTree.TheOpen.{TermTree-F}
-use Rattle.sw_text.specs.declared.tree.TermTree.TheFolds.{ind-TermTree}
-use Rattle.sw_text.specs.declared.tree.TermTree.TheVariants as term
-use Rattle.sw_text.specs.declared.tree.TermTree.TheVariants.{rolls-Named, rolls-Applied}
-use Rattle.sw_text.specs.declared.tree.Binder.{Binder}
-use Rattle.sw_text.specs.declared.tree.Tree as trees
-use Rattle.sw_text.specs.declared.tree.Tree.{Tree, roll-Tree}
-use Rattle.sw_text.specs.declared.tree.Tree.TheOpen.{Tree-F}
-use Rattle.sw_text.specs.declared.tree.Tree.TheFolds.{ind-Tree}
-use Rattle.sw_text.specs.declared.tree.Tree.TheVariants as tree
-use Rattle.sw_text.specs.declared.tree.Tree.TheVariants.{rolls-Constant, rolls-Atom, rolls-Equal, rolls-Not, rolls-All, rolls-Any, rolls-Implies, rolls-Iff, rolls-Quantified}
+use Rattle.sw_trees.specs.declared.words.Word.{Word}
+use Rattle.sw_trees.specs.declared.tree.TermTree as term_trees
+use Rattle.sw_trees.specs.declared.tree.TermTree.{TermTree, roll-TermTree}
+use Rattle.sw_trees.specs.declared.tree.TermTree.TheOpen.{TermTree-F}
+use Rattle.sw_trees.specs.declared.tree.TermTree.TheFolds.{ind-TermTree}
+use Rattle.sw_trees.specs.declared.tree.TermTree.TheVariants as term
+use Rattle.sw_trees.specs.declared.tree.TermTree.TheVariants.{rolls-Named, rolls-Applied}
+use Rattle.sw_trees.specs.declared.tree.Binder.{Binder}
+use Rattle.sw_trees.specs.declared.tree.Tree as trees
+use Rattle.sw_trees.specs.declared.tree.Tree.{Tree, roll-Tree}
+use Rattle.sw_trees.specs.declared.tree.Tree.TheOpen.{Tree-F}
+use Rattle.sw_trees.specs.declared.tree.Tree.TheFolds.{ind-Tree}
+use Rattle.sw_trees.specs.declared.tree.Tree.TheVariants as tree
+use Rattle.sw_trees.specs.declared.tree.Tree.TheVariants.{rolls-Constant, rolls-Atom, rolls-Equal, rolls-Not, rolls-All, rolls-Any, rolls-Implies, rolls-Iff, rolls-Quantified}
 use Rattle.sw_text.specs.declared.names.Rule.{Rule}
 use Rattle.sw_text.specs.declared.names.Wanted.{Wanted}
 use Rattle.sw_text.specs.Names.{Around, Scope, head_of, head_faults, head_sorts, head_gives, args_faults, term_faults, term_read, term_by, first_word, right_wanted, atom_by, atom_read, reads_post, faults, formula_read, binder_faults, binders_faults, bound, bytes_at, sort_number, number_or_0, is_none, is_declared, is_some_number, variable_number, broken, quantified}
@@ -32,11 +33,6 @@ use Rattle.sw_text.specs.Laws.{ReadIsWellSorted}
 use Rattle.sw_text.proofs.Breaking.{term_faults_of, term_read_of}
 use Rattle.sw_text.proofs.Folding.{faults_Atom, read_Atom, faults_Equal, read_Equal, faults_Implies, faults_Iff}
 use Rattle.sw_text.proofs.SortedTerms.{within, apart, passed, IsValueWanted, Meets, number_is_itself, sorts, known, is_value, is_atom_here}
-
-and_true : (b c : Bool) → b ≡ true → c ≡ true → (b && c) ≡ true
-and_true true true b c = refl
-and_true true false b c = cc
-and_true false c b d = cc
 
 all_of : {X : Type 0} (P : X → Type 0) → ((x : X) → P x) → (xs : List X) → AllByRecursion P xs
 all_of P f [] = tt
@@ -70,7 +66,7 @@ module _ (a : Around) (scope : Scope) where
   args_match (t ∷ ts) h (s ∷ ss) e n =
       let both = apart (term_faults a scope t (Wanted.Sort s)) (args_faults (map (term_faults a scope) ts) ss) e in
       let here = h.0 (Wanted.Sort s) tt both.0 in
-      and_true _ _ (ap (same_sort (Some s)) here.is ∙ same s here.sort here.meets) (args_match ts h.1 ss both.1 (omega (arith, n)))
+      both_true (ap (same_sort (Some s)) here.is ∙ same s here.sort here.meets) (args_match ts h.1 ss both.1 (omega (arith, n)))
 
   first_of_named : (w : Word) (primed : Bool) → first_word (term.Named w primed) ≡ w
   first_of_named w primed = search (rules, term_trees.the_lemmas)
@@ -188,7 +184,7 @@ module _ (a : Around) where
   each_well [] h scope e = refl
   each_well (p ∷ ps) h scope e =
       let both = apart (faults a p scope) (all_faults a ps scope) e in
-      and_true _ _ (h.0 scope both.0) (each_well ps h.1 scope both.1)
+      both_true (h.0 scope both.0) (each_well ps h.1 scope both.1)
 
   conjunction : (ps : List Tree) → AllByRecursion IsWell ps → IsWell (tree.All ps)
   conjunction ps h scope e =
@@ -209,14 +205,14 @@ module _ (a : Around) where
       let both = apart (faults a p scope) (faults a q scope) (sym (faults_Implies a scope p q) ∙ e) in
       let read : formula_read a (tree.Implies p q) scope ≡ formula.Implies (formula_read a p scope) (formula_read a q scope) = search (rules, trees.the_lemmas) in
       let whole : well (formula.Implies (formula_read a p scope) (formula_read a q scope)) scope ≡ (well (formula_read a p scope) scope && well (formula_read a q scope) scope) = search (rules, formulas.the_lemmas) in
-      ap (λ f. well f scope) read ∙ whole ∙ and_true _ _ (h scope both.0) (g scope both.1)
+      ap (λ f. well f scope) read ∙ whole ∙ both_true (h scope both.0) (g scope both.1)
 
   equivalence : (p q : Tree) → IsWell p → IsWell q → IsWell (tree.Iff p q)
   equivalence p q h g scope e =
       let both = apart (faults a p scope) (faults a q scope) (sym (faults_Iff a scope p q) ∙ e) in
       let read : formula_read a (tree.Iff p q) scope ≡ formula.Iff (formula_read a p scope) (formula_read a q scope) = search (rules, trees.the_lemmas) in
       let whole : well (formula.Iff (formula_read a p scope) (formula_read a q scope)) scope ≡ (well (formula_read a p scope) scope && well (formula_read a q scope) scope) = search (rules, formulas.the_lemmas) in
-      ap (λ f. well f scope) read ∙ whole ∙ and_true _ _ (h scope both.0) (g scope both.1)
+      ap (λ f. well f scope) read ∙ whole ∙ both_true (h scope both.0) (g scope both.1)
 
   sort_below : (o : Option ℕ) (n : ℕ) → is_none o ≡ false → ((k : ℕ) → o ≡ Some k → k < n) → nat_lt (number_or_0 o) n ≡ true
   sort_below None n e f = cc
@@ -225,7 +221,7 @@ module _ (a : Around) where
       below : (k n : ℕ) → k < n → nat_lt k n ≡ true
       below k n h = grind (arith, h)
 
-  binders_sorted : (bs : List Binder) (scope : Scope) → binders_faults a scope bs ≡ [] → are_sorts a.signature (map (bound a) bs) ≡ true
+  pub binders_sorted : (bs : List Binder) (scope : Scope) → binders_faults a scope bs ≡ [] → are_sorts a.signature (map (bound a) bs) ≡ true
   binders_sorted [] scope e = refl
   binders_sorted (b ∷ bs) scope e =
       let both = apart (binder_faults a scope b) (binders_faults a (scope ++ bound a b ∷ []) bs) e in
@@ -234,7 +230,7 @@ module _ (a : Around) where
       let sort_tests : List (Bool × Rule) = (is_none sort, Rule.Unknown) ∷ [] in
       let here = apart (broken b.name.token.at ((is_declared a name || is_some_number (variable_number scope name), Rule.Twice) ∷ [])) (broken b.sort.token.at sort_tests) both.0 in
       let known_sort = passed b.sort.token.at sort_tests here.1 in
-      and_true _ _ (sort_below sort (length a.signature.sorts) known_sort.0 (λ k is. slice_get_within a.signature.sorts k _ (within _ a.signature.sorts k is).1)) (binders_sorted bs (scope ++ bound a b ∷ []) both.1)
+      both_true (sort_below sort (length a.signature.sorts) known_sort.0 (λ k is. slice_get_within a.signature.sorts k _ (within _ a.signature.sorts k is).1)) (binders_sorted bs (scope ++ bound a b ∷ []) both.1)
 
   well_body : (universal : Bool) (vs : List logic.Binder) (f : Formula) (scope : Scope) → well (quantified universal vs f) scope ≡ (are_sorts a.signature vs && well_sorted a.signature (reads_post a.place) f (extended (sorts a scope) vs))
   well_body true vs f scope = search (rules, formulas.the_lemmas)
@@ -248,7 +244,7 @@ module _ (a : Around) where
       let both = apart (binders_faults a scope bs) (faults a p (scope ++ vs)) (sym broken ∙ e) in
       let inner : well_sorted a.signature (reads_post a.place) (formula_read a p (scope ++ vs)) (extended (sorts a scope) vs) ≡ true =
       subst (λ ss. well_sorted a.signature (reads_post a.place) (formula_read a p (scope ++ vs)) ss ≡ true) (map-append (λ (b : logic.Binder). b.sort) scope vs) (h (scope ++ vs) both.1) in
-      ap (λ f. well f scope) read ∙ well_body universal vs (formula_read a p (scope ++ vs)) scope ∙ and_true _ _ (binders_sorted bs scope both.0) inner
+      ap (λ f. well f scope) read ∙ well_body universal vs (formula_read a p (scope ++ vs)) scope ∙ both_true (binders_sorted bs scope both.0) inner
 
   tree_layer : (y : Tree-F ((t : Tree) × IsWell t)) → IsWell (roll-Tree (trees.map-Tree ((t : Tree) × IsWell t) Tree (λ e. e.0) y))
   tree_layer (Tree-F.Constant value) = subst IsWell (sym (rolls-Constant value)) (constant value)

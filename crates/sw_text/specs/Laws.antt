@@ -5,17 +5,9 @@ use Rattle.sw_logic.specs.declared.syntax.Formula.{Formula}
 use Rattle.sw_logic.specs.declared.variables.TheConstants.{VARIABLES}
 use Rattle.sw_logic.specs.Truth.{binds}
 use Rattle.sw_logic.specs.Sorted.{well_sorted}
-use Rattle.sw_text.specs.declared.words.Word.{Word}
-use Rattle.sw_text.specs.declared.tree.Tree.{Tree}
-use Rattle.sw_text.specs.declared.reader.Read.{Read}
-use Rattle.sw_text.specs.Grammar.{Context}
-use Rattle.sw_text.specs.Answers.{IsAnswer}
+use Rattle.sw_trees.specs.declared.tree.Tree.{Tree}
 use Rattle.sw_text.specs.Texts.{HasFormula}
 use Rattle.sw_text.specs.Names.{Around, Scope, reads_post, faults, formula_read}
-
--- a list of words has one answer
-abbrev pub OneAnswer : Type 0
-OneAnswer = (base : Context) (ws : List Word) (r s : Read) → IsAnswer base ws r → IsAnswer base ws s → r ≡ s
 
 -- what breaks no rule on names and sorts is well sorted; primes are allowed where the place is a transition's
 abbrev pub ReadIsWellSorted : Type 0

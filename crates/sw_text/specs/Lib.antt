@@ -1,15 +1,5 @@
-pub mod Words
-pub mod Measures
-pub mod Capped
-pub mod Grammar
-pub mod Machine
-pub mod Steps
-pub mod Limits
-pub mod Answers
-pub mod Laws
 pub mod Names
 pub mod Resolving
 pub mod Texts
-pub mod Printing
 pub mod Scoped
-pub mod ReadsBack
+pub mod Laws

@@ -10,14 +10,14 @@ use Rattle.sw_logic.specs.declared.syntax.Term.{Term}
 use Rattle.sw_logic.specs.declared.syntax.Term.TheVariants as term
 use Rattle.sw_logic.specs.declared.syntax.Formula.{Formula}
 use Rattle.sw_logic.specs.declared.syntax.Formula.TheVariants as formula
-use Rattle.sw_text.specs.declared.words.Word.{Word}
-use Rattle.sw_text.specs.declared.tree.Binder.{Binder}
-use Rattle.sw_text.specs.declared.tree.TermTree.{TermTree, out-TermTree}
-use Rattle.sw_text.specs.declared.tree.TermTree.TheOpen.{TermTree-F}
-use Rattle.sw_text.specs.declared.tree.TermTree.TheFolds.{fold-TermTree}
-use Rattle.sw_text.specs.declared.tree.Tree.{Tree}
-use Rattle.sw_text.specs.declared.tree.Tree.TheOpen.{Tree-F}
-use Rattle.sw_text.specs.declared.tree.Tree.TheFolds.{fold-Tree}
+use Rattle.sw_trees.specs.declared.words.Word.{Word}
+use Rattle.sw_trees.specs.declared.tree.Binder.{Binder}
+use Rattle.sw_trees.specs.declared.tree.TermTree.{TermTree, out-TermTree}
+use Rattle.sw_trees.specs.declared.tree.TermTree.TheOpen.{TermTree-F}
+use Rattle.sw_trees.specs.declared.tree.TermTree.TheFolds.{fold-TermTree}
+use Rattle.sw_trees.specs.declared.tree.Tree.{Tree}
+use Rattle.sw_trees.specs.declared.tree.Tree.TheOpen.{Tree-F}
+use Rattle.sw_trees.specs.declared.tree.Tree.TheFolds.{fold-Tree}
 use Rattle.sw_text.specs.declared.names.Place.{Place}
 use Rattle.sw_text.specs.declared.names.Rule.{Rule}
 use Rattle.sw_text.specs.declared.names.Violation.{Violation}

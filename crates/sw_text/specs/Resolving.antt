@@ -6,12 +6,12 @@ use Rattle.sw_text.specs.declared.names.Violation.{Violation}
 use Rattle.sw_text.specs.declared.resolve.Resolved.{Resolved}
 use Rattle.sw_logic.specs.declared.syntax.Binder.{Binder}
 use Rattle.sw_logic.specs.declared.syntax.Term.{Term}
-use Rattle.sw_text.specs.declared.words.Word.{Word}
+use Rattle.sw_trees.specs.declared.words.Word.{Word}
 use Rattle.std.specs.List.{flat_map}
 use Rattle.sw_logic.specs.declared.syntax.Formula.{Formula}
-use Rattle.sw_text.specs.declared.tree.Binder as trees
-use Rattle.sw_text.specs.declared.tree.Tree.{Tree}
-use Rattle.sw_text.specs.declared.tree.TermTree.{TermTree}
+use Rattle.sw_trees.specs.declared.tree.Binder as trees
+use Rattle.sw_trees.specs.declared.tree.Tree.{Tree}
+use Rattle.sw_trees.specs.declared.tree.TermTree.{TermTree}
 use Rattle.sw_text.specs.declared.names.Wanted.{Wanted}
 use Rattle.sw_text.specs.Names.{Around, head_faults, head_of, head_sorts, args_faults, term_faults, term_read, term_by, right_wanted, faults, formula_read, binders_faults, bound, quantified}
 

@@ -4,13 +4,13 @@ use Rattle.sw_logic.specs.declared.syntax.Binder.{Binder}
 use Rattle.sw_logic.specs.declared.syntax.Formula.{Formula}
 use Rattle.sw_scan.specs.declared.Token.{Token}
 use Rattle.sw_scan.specs.Scans.{Scans}
-use Rattle.sw_text.specs.declared.words.Word.{Word}
+use Rattle.sw_trees.specs.declared.words.Word.{Word}
 use Rattle.sw_text.specs.declared.names.Violation.{Violation}
-use Rattle.sw_text.specs.declared.reader.Read.{Read}
+use Rattle.sw_trees.specs.declared.reader.Read.{Read}
 use Rattle.sw_text.specs.declared.texts.TextError.{TextError}
-use Rattle.sw_text.specs.Words.{word_of}
-use Rattle.sw_text.specs.Grammar.{Context}
-use Rattle.sw_text.specs.Answers.{IsAnswer}
+use Rattle.sw_trees.specs.Words.{word_of}
+use Rattle.sw_trees.specs.Grammar.{Context}
+use Rattle.sw_trees.specs.Answers.{IsAnswer}
 use Rattle.sw_text.specs.Names.{Around, Scope, faults, formula_read}
 
 -- the place of a word, or the end of the text where there is none

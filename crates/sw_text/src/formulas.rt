@@ -7,11 +7,10 @@ ghost use Rattle.sw_text.specs.Resolving.{around, Finds, FindsIn, applied_faults
 
 use crate::names::{Head, Names, Rule, Violation, Wanted, variable_place};
 use crate::resolve::Resolved;
-use crate::tree::{Binder, TermTree, Tree};
-use crate::words::{Word, bytes_of};
 use sqlite_items::{Boxed, Items};
 use std::alloc::{AllocError, Global};
 use sw_logic::{Formula, Name, Term};
+use sw_trees::{Binder, TermTree, Tree, Word, bytes_of};
 
 /// The atom of a name and arguments.
 fn atom_by(head: Option<Head>, primed: bool, args: Items<Term>) -> Formula

@@ -1,12 +1,6 @@
 //! Laws about the definitions: each is the contract of a function that does nothing.
-ghost use Rattle.sw_text.specs.Laws.{OneAnswer, ReadIsWellSorted, ReadBindsFew};
+ghost use Rattle.sw_text.specs.Laws.{ReadIsWellSorted, ReadBindsFew};
 ghost use Rattle.sw_text.specs.Texts.{OneFormula};
-ghost use Rattle.sw_text.specs.ReadsBack.{ReadsBack};
-
-/// A list of words has one answer.
-pub fn one_answer()
-    ensures { OneAnswer }
-{}
 
 /// A formula that breaks no rule on names and sorts is well sorted.
 pub fn read_is_well_sorted()
@@ -21,9 +15,4 @@ pub fn one_formula()
 /// What is read has at most 32 variables in scope, with those around it.
 pub fn read_binds_few()
     ensures { ReadBindsFew }
-{}
-
-/// The canonical text of a formula that a text has reads back as this formula.
-pub fn reads_back()
-    ensures { ReadsBack }
 {}

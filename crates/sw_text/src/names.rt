@@ -5,14 +5,14 @@ ghost use Rattle.std.specs.Str.{bytes_eq};
 ghost use Rattle.sw_text.specs.Names.{sort_number, symbol_number, variable_number, is_declared, head_of, head_tests, head_sorts, head_gives, is_axiom, reads_post, is_listed, value_mismatch, mismatch, variable_tests, symbol_tests};
 ghost use Rattle.sw_text.specs.Resolving.{around, first_rule};
 
-use crate::words::{Word, bytes_of};
 use sqlite_items::Items;
 use std::alloc::AllocError;
 use sw_logic::{Binder, Name, Signature, Symbol, SymbolKind};
+use sw_trees::{Word, bytes_of};
 
 /// Where a formula stands: in an axiom; in an initial condition or a safety property; or in a
 /// transition that modifies these symbols.
-#[derive(Debug, Drop)]
+#[derive(Drop)]
 pub enum Place {
     Axiom,
     OneState,
@@ -39,7 +39,7 @@ pub struct Violation {
 }
 
 /// What is wanted where a term stands: an atom, any value, or a value of a sort.
-#[derive(Clone, Copy, Debug)]
+#[derive(Clone, Copy)]
 pub enum Wanted {
     Atom,
     Value,
@@ -47,7 +47,7 @@ pub enum Wanted {
 }
 
 /// What a name stands for: a variable by its place in the scope, or a symbol by its number.
-#[derive(Clone, Copy, Debug)]
+#[derive(Clone, Copy)]
 pub enum Head {
     Variable(u32),
     Symbol(u32),
@@ -104,16 +104,23 @@ fn is_symbol(symbols: &[Symbol], bytes: &[u8]) -> bool
     symbols.iter().any(|symbol| is_named(bytes, &symbol.name))
 }
 
-/// A count as the number of what it counts; an error where it does not fit.
+/// A count as a number of what it counts; an error where it does not fit.
+pub fn number_of(count: usize) -> Result<u32, AllocError>
+    ensures { IfOk result (λ n. n ≡ count) }
+{
+    match u32::try_from(count) {
+        Ok(number) => Ok(number),
+        Err(_) => Err(AllocError),
+    }
+}
+
+/// A place as the number of what stands there.
 fn number(place: Option<usize>) -> Result<Option<u32>, AllocError>
     ensures { IfOk result (λ n. n ≡ place) }
 {
     match place {
         None => Ok(None),
-        Some(place) => match u32::try_from(place) {
-            Ok(number) => Ok(Some(number)),
-            Err(_) => Err(AllocError),
-        },
+        Some(place) => Ok(Some(number_of(place)?)),
     }
 }
 

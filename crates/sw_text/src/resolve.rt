@@ -5,14 +5,13 @@ ghost use Rattle.sw_text.specs.Names.{term_faults, term_read, args_faults, head_
 ghost use Rattle.sw_text.specs.Resolving.{around, Finds, applied_faults, applied_read};
 
 use crate::names::{Head, Names, Violation, Wanted};
-use crate::tree::TermTree;
-use crate::words::Word;
 use sqlite_items::Items;
 use std::alloc::{AllocError, Global};
 use sw_logic::{Binder, Term};
+use sw_trees::{TermTree, Word};
 
 /// What a tree is, or the first rule that it breaks.
-#[derive(Debug, Drop)]
+#[derive(Drop)]
 pub enum Resolved<T> {
     Found(T),
     Broken(Violation),

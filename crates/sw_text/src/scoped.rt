@@ -7,12 +7,12 @@ ghost use Rattle.sw_text.specs.declared.texts.TextError.{TextError};
 ghost use Rattle.sw_text.specs.Texts.{HasFormula, answer_of};
 ghost use Rattle.sw_text.specs.Scoped.{variables_of, listed_by, mutable_from, place_by, in_scope};
 
-use crate::names::{Names, Place};
-use crate::printing::print_named;
+use crate::names::{Names, Place, number_of};
 use crate::texts::{TextError, read_named};
 use sqlite_items::Items;
 use std::alloc::{AllocError, Global};
 use sw_logic::{Binder, Formula, Name, Scope, Signature, Symbol};
+use sw_print::print_named;
 
 /// The name of the variable of this number, from 0.
 fn name_of(alloc: Global, number: usize) -> Result<Name, AllocError>
@@ -45,10 +45,7 @@ fn list_mutable(listed: &mut Items<u32>, symbol: &Symbol, number: usize) -> Resu
     if !symbol.mutable {
         return Ok(());
     }
-    let Ok(number) = u32::try_from(number) else {
-        return Err(AllocError);
-    };
-    listed.push(number)
+    listed.push(number_of(number)?)
 }
 
 /// The numbers of the symbols that may change.

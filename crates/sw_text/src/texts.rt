@@ -9,12 +9,11 @@ ghost use Rattle.sw_text.specs.Resolving.{around};
 ghost use Rattle.sw_text.specs.Texts.{place_in, outcome, sorts_of_scope, HasFormula, answer_of};
 
 use crate::names::{Names, Violation};
-use crate::reader::{Around, Read, read_tree};
 use crate::resolve::Resolved;
-use crate::words::{Word, words_of};
 use std::alloc::Global;
 use sw_logic::{Binder, Formula};
 use sw_scan::{ScanError, scan};
+use sw_trees::{Around, Read, Word, read_tree, words_of};
 use thiserror::Error;
 
 /// Why a text is no formula. Places are those of bytes, from 0.
@@ -43,7 +42,7 @@ pub enum TextError {
 }
 
 /// The place of the word of this number, or the end of the text behind the last one.
-fn place_of(words: &[Word], end: u32, number: usize) -> u32
+pub fn place_of(words: &[Word], end: u32, number: usize) -> u32
     ensures { result ≡ place_in end words.now number }
 {
     match words.get(number) {

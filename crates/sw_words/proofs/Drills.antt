@@ -1,8 +1,9 @@
 -- The number of a drill stands first or last, and what is left of its words are options.
-use Rattle.std.specs.Prelude.{◌<◌, length, map, ◌≡◌, ◌==◌, ◌&&◌, ◌||◌, Bool, true, false, List, [], ◌∷◌, ◌++◌, Option, None, codes, option_and_then}
+use Rattle.std.specs.Prelude.{◌<◌, length, map, ◌≡◌, ◌==◌, ◌||◌, Bool, true, false, List, [], ◌∷◌, ◌++◌, Option, None, codes, option_and_then}
 use Rattle.std.specs.List.{list_all, flat_map}
 use Rattle.std.specs.Str.{bytes_eq}
 use Rattle.std.proofs.Common.{arith, refl, sym, ap, ◌∙◌, subst}
+use Rattle.std.proofs.lemmas.List.Folds.{list_all-map}
 use Rattle.std.proofs.lemmas.Bool.{true≢false, and_parts, not-true}
 use Rattle.std.proofs.lemmas.List.Concat.{flat_map-append}
 use Rattle.std.proofs.lemmas.Slice.Eq.{bytes_eq-Decides}
@@ -226,18 +227,14 @@ alone_none f command (w ∷ ws) stand some =
 
 -- ---- all words
 
-pub list_all-map : {X : Type 0} (p : Word → Bool) (f : X → Word) (xs : List X) → list_all (λ x. p (f x)) xs ≡ list_all p (map f xs)
-list_all-map p f [] = refl
-list_all-map p f (x ∷ xs) = ap (λ b. p (f x) && b) (list_all-map p f xs)
-
 pub command_is : {X : Type 0} (f : X → Word) (words rest : List X) (name : X) → words ≡ name ∷ rest → list_all (λ x. may_stand (f x)) rest ≡ true
     → command_of (map f words) ≡ command_with (f name) (spelled (map f rest))
 command_is f words rest name is stand =
-    let stands : list_all may_stand (map f rest) ≡ true = sym (list_all-map may_stand f rest) ∙ stand in
+    let stands : list_all may_stand (map f rest) ≡ true = list_all-map may_stand f rest ∙ stand in
     ap (λ ws. command_of (map f ws)) is ∙ rw stands refl
 
 pub command_none : {X : Type 0} (f : X → Word) (words rest : List X) (name : X) → words ≡ name ∷ rest → list_all (λ x. may_stand (f x)) rest ≡ false
     → command_of (map f words) ≡ None
 command_none f words rest name is stand =
-    let stands : list_all may_stand (map f rest) ≡ false = sym (list_all-map may_stand f rest) ∙ stand in
+    let stands : list_all may_stand (map f rest) ≡ false = list_all-map may_stand f rest ∙ stand in
     ap (λ ws. command_of (map f ws)) is ∙ rw stands refl

@@ -6,7 +6,7 @@ use std::marker::Model;
 use thiserror::Error;
 
 /// A text of the command line. Contracts see its bytes.
-#[derive(Debug, Drop)]
+#[derive(Drop)]
 pub struct Text {
     text: String,
 }
@@ -35,7 +35,7 @@ impl Text {
 
 /// The options of a search: the texts of its templates, how many workers it has, and its budget of
 /// conflicts, where it has one.
-#[derive(Debug, Drop)]
+#[derive(Drop)]
 pub struct Options {
     pub breadth: Option<Text>,
     pub finish: Option<Text>,
@@ -44,7 +44,7 @@ pub struct Options {
 }
 
 /// A command. `Space` has the text of a template; `Drill` has its number, and how many workers.
-#[derive(Debug, Drop)]
+#[derive(Drop)]
 pub enum Command {
     Synth(Options),
     Certify(Options),

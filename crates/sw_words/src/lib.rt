@@ -11,6 +11,3 @@ mod reads;
 pub use commands::{Command, Options, Text, WordsError};
 pub use limits::{LEAST_DRILL, MOST_CONFLICTS, MOST_DIGITS, MOST_DRILL, MOST_WORKERS, WORD_LIMIT};
 pub use reads::read_words;
-
-#[cfg(test)]
-mod tests;

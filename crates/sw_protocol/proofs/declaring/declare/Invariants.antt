@@ -1,6 +1,7 @@
 -- What is declared so far breaks nothing, and the rest goes on from there.
 use Rattle.std.proofs.Common.{◌≡◌, drop}
-use Rattle.sw_protocol.specs.Declaring.{Knows, all_faults, all_declared, empty_protocol}
+use Rattle.sw_protocol.specs.Declaring.{all_faults, all_declared, empty_protocol}
+use Rattle.sw_protocol.specs.Drafts.{Knows}
 use Rattle.sw_protocol.proofs.declaring.declare.Given as goal
 
 abbrev pub invariant-loop-declaration : goal.invariant-loop-declaration

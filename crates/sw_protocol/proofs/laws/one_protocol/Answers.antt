@@ -1,4 +1,4 @@
-use Rattle.sw_protocol.proofs.OneProtocol.{one_protocol}
+use Rattle.sw_protocol.proofs.OneReading.{one_protocol}
 use Rattle.sw_protocol.proofs.laws.one_protocol.Goals as goal
 
 pub returns : goal.returns

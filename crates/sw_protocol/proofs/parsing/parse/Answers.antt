@@ -1,5 +1,5 @@
 use Rattle.std.proofs.Common.{◌≡◌, Some, None, length, refl, arith, ◌∙◌}
-use Rattle.sw_text.proofs.Answering.{if_ok}
+use Rattle.sw_trees.proofs.Answering.{if_ok}
 use Rattle.sw_protocol.specs.declared.phases.Phase.{Phase}
 use Rattle.sw_protocol.specs.Answers.{IsAnswer}
 use Rattle.sw_protocol.proofs.Reading.{at}

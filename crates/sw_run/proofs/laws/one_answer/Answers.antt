@@ -1,6 +1,5 @@
 use Rattle.sw_run.proofs.OneAnswer.{one_answer}
-use Rattle.sw_protocol.proofs.OneProtocol.{one_protocol}
 use Rattle.sw_run.proofs.laws.one_answer.Goals as goal
 
 pub returns : goal.returns
-returns c = one_answer one_protocol
+returns c = one_answer

@@ -6,16 +6,16 @@ use Rattle.sw_sat.specs.declared.trail.Entry.{Entry}
 use Rattle.sw_sat.specs.Progress.{Turns}
 use Rattle.sw_sat.specs.declared.solver.Turn.TheVariants as turn
 use Rattle.sw_sat.specs.Trail.{all_clauses, IsState, IsFixpoint, literals}
-use Rattle.sw_sat.proofs.StepLists.{over_all}
+use Rattle.sw_refute.proofs.Accepting.{all_over}
 use Rattle.sw_sat.proofs.Turning.{grown_search, grown_left, turns_from, decided_turn, unchanged_search}
 use Rattle.sw_sat.proofs.solver.take_turn.Goals as goal
 
 pub propagate-requires-clause-over : goal.propagate-requires-clause-over
 propagate-requires-clause-over c =
-    subst (λ s. All (IsOver c.args.cnf.now.variables) (all_clauses c.args.cnf.now s)) (sym c.as_slice.ensures.value) (over_all c.args.cnf.now c.args.steps.now.items c.requires.well_formed c.requires.found.accepted)
+    subst (λ s. All (IsOver c.args.cnf.now.variables) (all_clauses c.args.cnf.now s)) (sym c.as_slice.ensures.value) (all_over c.args.cnf.now.variables c.args.cnf.now.clauses c.args.steps.now.items c.requires.well_formed c.requires.found.accepted)
 
 pub handle_conflict-requires-clause-over : goal.handle_conflict-requires-clause-over
-handle_conflict-requires-clause-over c = over_all c.args.cnf.now c.args.steps.now.items c.requires.well_formed c.requires.found.accepted
+handle_conflict-requires-clause-over c = all_over c.args.cnf.now.variables c.args.cnf.now.clauses c.args.steps.now.items c.requires.well_formed c.requires.found.accepted
 
 pub handle_conflict-requires-clause-found : goal.handle_conflict-requires-clause-found
 handle_conflict-requires-clause-found c =

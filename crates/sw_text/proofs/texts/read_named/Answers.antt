@@ -1,7 +1,7 @@
 use Rattle.std.proofs.Common.{arith, ◌≡◌, List, length, map, IfSome, subst, sym, ap, ◌∙◌}
-use Rattle.sw_text.specs.declared.words.Word.{Word}
-use Rattle.sw_text.specs.Words.{word_of}
-use Rattle.sw_text.specs.Answers.{IsAnswer}
+use Rattle.sw_trees.specs.declared.words.Word.{Word}
+use Rattle.sw_trees.specs.Words.{word_of}
+use Rattle.sw_trees.specs.Answers.{IsAnswer}
 use Rattle.sw_text.specs.Resolving.{around}
 use Rattle.sw_text.specs.Texts.{HasFormula, base_in, outcome, answer_of}
 use Rattle.sw_text.proofs.OneFormula.{has_bad, has_outcome, each_outcome, no_other, sorted}

@@ -2,7 +2,8 @@ use Rattle.std.specs.Prelude.{◌≡◌, true, false, Some, IfOk, map, string_by
 use Rattle.std.specs.List.{list_all, flat_map}
 use Rattle.std.proofs.Common.{sym, ◌∙◌, rules, tests, subst}
 use Rattle.sw_words.specs.Grammar.{may_stand, command_with, pieces}
-use Rattle.sw_words.proofs.Drills.{list_all-map, command_is, command_none}
+use Rattle.std.proofs.lemmas.List.Folds.{list_all-map}
+use Rattle.sw_words.proofs.Drills.{command_is, command_none}
 use Rattle.sw_words.proofs.reads.read_words.Goals as goal
 
 pub returns-then-not-all_stand-clause-usage : goal.returns-then-not-all_stand-clause-usage
@@ -13,7 +14,7 @@ returns-then-not-all_stand-clause-usage c =
 pub read_command-requires : goal.read_command-requires
 read_command-requires c =
     let stand : list_all (λ w. may_stand (string_bytes w)) c.in-Some.rest.now ≡ true = search (rules, tests) in
-    sym (list_all-map may_stand (λ w. string_bytes w) c.in-Some.rest.now) ∙ stand
+    list_all-map may_stand (λ w. string_bytes w) c.in-Some.rest.now ∙ stand
 
 pub returns-clause-command : goal.returns-clause-command
 returns-clause-command c =

@@ -2,7 +2,8 @@ use Rattle.std.proofs.Common.{[], ◌++◌, refl}
 use Rattle.sw_text.specs.declared.names.Place.TheVariants as place
 use Rattle.sw_text.specs.Names.{binders_faults, faults}
 use Rattle.sw_text.proofs.Breaking.{begins_front, begins_back}
-use Rattle.sw_protocol.specs.Declaring.{reading, params_of, in_step, modified_faults}
+use Rattle.sw_protocol.specs.Declaring.{params_of, in_step, modified_faults}
+use Rattle.sw_protocol.specs.Drafts.{reading}
 use Rattle.sw_protocol.proofs.draft.Draft.named_transition.Goals as goal
 
 pub returns-in-Some : goal.returns-in-Some

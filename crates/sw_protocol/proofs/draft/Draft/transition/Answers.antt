@@ -2,7 +2,8 @@ use Rattle.std.proofs.Common.{refl, subst}
 use Rattle.sw_text.specs.declared.names.Place.TheVariants as place
 use Rattle.sw_text.specs.Names.{Around}
 use Rattle.sw_text.proofs.Breaking.{begins_front}
-use Rattle.sw_protocol.specs.Declaring.{reading, name_faults, named_faults, with_own_name, IsFirst}
+use Rattle.sw_protocol.specs.Declaring.{name_faults, named_faults, with_own_name}
+use Rattle.sw_protocol.specs.Drafts.{reading, IsFirst}
 use Rattle.sw_protocol.proofs.draft.Draft.transition.Goals as goal
 
 pub returns-in-Some : goal.returns-in-Some

@@ -1,5 +1,5 @@
 use Rattle.std.proofs.Common.{inl}
-use Rattle.sw_text.proofs.Answering.{if_ok}
+use Rattle.sw_trees.proofs.Answering.{if_ok}
 use Rattle.sw_protocol.specs.Machine.{loads_in, nests, next, gone}
 use Rattle.sw_protocol.specs.Steps.{Answers}
 use Rattle.sw_protocol.proofs.Stepping.{semicolon_answers, taken}

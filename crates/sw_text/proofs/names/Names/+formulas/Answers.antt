@@ -1,8 +1,8 @@
 use Rattle.std.proofs.Common.{◌+◌, drop, get_or, refl, sym, ap, ◌∙◌}
-use Rattle.sw_text.specs.declared.tree.Tree.{Tree}
+use Rattle.sw_trees.specs.declared.tree.Tree.{Tree}
 use Rattle.sw_text.specs.Names.{faults, binders_faults}
 use Rattle.sw_text.specs.Resolving.{around, all_faults}
-use Rattle.sw_text.proofs.Answering.{if_ok}
+use Rattle.sw_trees.proofs.Answering.{if_ok}
 use Rattle.sw_text.proofs.Breaking.{begins_front, begins_back}
 use Rattle.sw_text.proofs.Folding.{finds_in, faults_Atom, read_Atom, faults_Equal, read_Equal, faults_Implies, faults_Iff, all_faults_more, all_read_more}
 use Rattle.sw_text.proofs.names.Names.+formulas.Goals as goal

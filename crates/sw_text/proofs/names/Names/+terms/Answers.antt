@@ -1,6 +1,6 @@
 use Rattle.std.proofs.Common.{ℕ, ◌+◌, List, length, map, drop, get_or, refl, sym, ap, ◌∙◌}
 use Rattle.std.proofs.lemmas.List.{length-map}
-use Rattle.sw_text.specs.declared.tree.TermTree.{TermTree}
+use Rattle.sw_trees.specs.declared.tree.TermTree.{TermTree}
 use Rattle.sw_text.specs.declared.names.Violation.{Violation}
 use Rattle.sw_text.specs.Names.{head_faults, args_faults, head_sorts, head_of, term_faults, next_wanted}
 use Rattle.sw_text.specs.Resolving.{around}

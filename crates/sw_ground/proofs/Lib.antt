@@ -1,0 +1,12 @@
+mod Adding
+mod Emitting
+mod Gathering
+mod Joining
+mod Judging
+mod Keys
+mod Looking
+mod Once
+mod Parts
+mod Rows
+mod Tops
+mod Within

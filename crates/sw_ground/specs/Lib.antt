@@ -1,0 +1,5 @@
+pub mod Adding
+pub mod Building
+pub mod Indexed
+pub mod Table
+pub mod Verdict

@@ -1,0 +1,2 @@
+mod OneGround
+mod OneVerdict

@@ -1,0 +1,6 @@
+mod Counting
+mod Encoding
+mod Holding
+mod Listing
+mod Numbered
+mod Universes

@@ -1,0 +1,7 @@
+use Rattle.std.proofs.Common.{◌≡◌, ◌++◌, take}
+use Rattle.std.specs.List.{flat_map, enumerate_from}
+use Rattle.sw_instances.specs.AllInstances.{piece_instances}
+use Rattle.sw_instances.proofs.instances.push_pieces.Given as goal
+
+abbrev pub invariant-loop-k : goal.invariant-loop-k
+invariant-loop-k l = l.all ≡ l.initial.all ++ flat_map (piece_instances l.universe) (enumerate_from 0 (take l.k l.pieces))

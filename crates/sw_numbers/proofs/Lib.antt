@@ -1,0 +1,4 @@
+pub mod NumbersOfTerms
+mod Placed
+pub mod Placing
+mod Standing

@@ -1,0 +1,13 @@
+pub mod Sentences
+pub mod Simple
+pub mod Places
+pub mod KeepsTruth
+pub mod Parts
+pub mod Out
+pub mod Together
+pub mod Means
+pub mod KeepsSorts
+pub mod AreQueries
+pub mod KeepsEdges
+pub mod Edging
+pub mod Examples

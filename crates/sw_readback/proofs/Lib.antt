@@ -1,0 +1,15 @@
+mod Spacing
+mod Tidy
+mod SpeltTerms
+mod Measured
+mod SpeltForms
+mod SameMeaning
+mod Tidied
+mod ShownAs
+mod Formulas
+mod Growing
+mod WrittenLists
+mod WrittenNames
+mod WrittenDeclarations
+mod WrittenTransitions
+mod Protocols

@@ -1,0 +1,5 @@
+mod EdgeSteps
+mod Examples
+mod Reached
+mod WithinSorts
+mod Level

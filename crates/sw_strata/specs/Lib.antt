@@ -1,0 +1,4 @@
+pub mod Answers
+pub mod Edges
+pub mod Laws
+pub mod Reaching

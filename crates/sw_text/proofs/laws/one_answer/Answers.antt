@@ -1,5 +1,0 @@
-use Rattle.sw_text.proofs.OneAnswer.{one_answer}
-use Rattle.sw_text.proofs.laws.one_answer.Goals as goal
-
-pub returns : goal.returns
-returns c = one_answer

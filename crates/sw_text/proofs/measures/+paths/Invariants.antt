@@ -1,7 +1,0 @@
--- The greatest so far.
-use Rattle.std.proofs.Common.{◌≡◌, ◌-◌, ◌^◌, map, take, min}
-use Rattle.sw_text.specs.Measures.{greatest, longest_path}
-use Rattle.sw_text.proofs.measures.+paths.Given as goal
-
-abbrev pub invariant-longest_of-loop-tree : goal.invariant-longest_of-loop-tree
-invariant-longest_of-loop-tree l = l.most ≡ min (2 ^ 32 - 1) (greatest (map longest_path (take l.tree-index l.trees)))

@@ -1,0 +1,8 @@
+pub mod Reduce
+pub mod Reading
+pub mod Complete
+pub mod Sound
+pub mod Viable
+pub mod Greatest
+pub mod Answering
+pub mod OneAnswer

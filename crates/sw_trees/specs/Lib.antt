@@ -1,0 +1,9 @@
+pub mod Words
+pub mod Measures
+pub mod Capped
+pub mod Grammar
+pub mod Machine
+pub mod Steps
+pub mod Limits
+pub mod Answers
+pub mod Laws

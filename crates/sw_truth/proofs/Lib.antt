@@ -1,0 +1,14 @@
+pub mod Atoms
+pub mod Critical
+pub mod Deriving
+pub mod Growing
+pub mod Inhabited
+pub mod Lists
+pub mod Matrices
+pub mod Occurring
+pub mod Putting
+pub mod Ranging
+pub mod Rising
+pub mod Scoping
+pub mod Tables
+pub mod Truths
