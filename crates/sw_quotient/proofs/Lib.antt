@@ -1,3 +1,4 @@
+pub mod Elements
 mod Atoms
 mod Classes
 mod Clauses

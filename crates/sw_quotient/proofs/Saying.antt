@@ -7,7 +7,7 @@ use Rattle.std.proofs.lemmas.Option.{none-some, same_Some}
 use Rattle.sw_refute.specs.declared.clauses.Lit.{Lit}
 use Rattle.sw_refute.specs.declared.clauses.Clause.{Clause}
 use Rattle.sw_refute.specs.Satisfaction.{Assignment, variable, is_positive, lit_holds, clause_holds, all_hold}
-use Rattle.sw_universe.proofs.Elements.{among, last, contains_at, where_is}
+use Rattle.sw_quotient.proofs.Elements.{among, last, contains_at, where_is}
 use Rattle.sw_instances.specs.Named.{Name, Literal, opposite}
 use Rattle.sw_instances.specs.Numbered.{Beside, InOrder, IsLiteral, once, IsClause}
 
