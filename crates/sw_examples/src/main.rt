@@ -86,12 +86,17 @@ fn told<R: Threads + Wait + Sync>(
     Ok(told)
 }
 
+// The name of an example, and the template behind its `/`.
+fn parts(word: &str) -> (&str, Option<&str>) {
+    match word.split_once('/') {
+        Some((name, template)) => (name, Some(template)),
+        None => (word, None),
+    }
+}
+
 fn main(rt: HostRuntime) -> io::Result<()> {
     for word in env::args(&rt)?.skip(1) {
-        let (name, template) = match word.as_str().split_once('/') {
-            Some((name, template)) => (name, Some(template)),
-            None => (word.as_str(), None),
-        };
+        let (name, template) = parts(word.as_str());
         let text = fs::read(&rt, name)?;
         let told = told(&rt, rt.alloc(), name, template, text.as_slice())?;
         rt.stdout().write_all(told.as_slice())?;
