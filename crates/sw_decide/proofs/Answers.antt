@@ -125,7 +125,7 @@ found q ok laws set u e f g is values s h m = found_in q ok laws g is values s (
 
 -- an answer with what it carries is exact
 pub exact : (q : Query) → IsQuery q → AcceptedLeavesNoStructure → (budget : Option ℕ) (d : Decision) → Decides q budget d → IsExact q d
-exact q ok law budget (Refuted r) h = let none = law q r ok h in inr (inr ((λ t. none, λ n. tt), (λ e. absurd e, λ t. none t.0 t.1)))
+exact q ok law budget (Refuted r) h = let none = law q r ok h.accepted in inr (inr ((λ t. none, λ n. tt), (λ e. absurd e, λ t. none t.0 t.1)))
 exact q ok law budget (Found s) h = inr (inr ((λ e. absurd e, λ n. n s h), (λ t. (s, h), λ t. tt)))
 exact q ok law budget (Spent r) h = inl tt
 exact q ok law budget (TooLarge size) h = inr (inl tt)

@@ -1,5 +1,5 @@
 -- What the decision of a query says.
-use Rattle.std.specs.Prelude.{◌≡◌, ◌⊎◌, ◌↔◌, ◌<◌, ℕ, Option}
+use Rattle.std.specs.Prelude.{◌≡◌, ◌⊎◌, ◌↔◌, ◌<◌, ◌≤◌, ◌+◌, ℕ, Option, IfSome, length}
 use Rattle.sw_logic.specs.declared.structure.Structure.{Structure}
 use Rattle.sw_logic.specs.declared.query.Query.{Query}
 use Rattle.sw_logic.specs.Queries.{Satisfies}
@@ -26,6 +26,11 @@ size_of_query q = size_of_set (skolem_of q)
 abbrev pub IsPast : Size → Type 0
 IsPast size = (MOST_TERMS < size.terms) ⊎ (MOST_INSTANCES < size.instances)
 
+-- an accepted refutation, with no more steps before its last than the budget allows
+pub record IsRefutationOf (q : Query) (budget : Option ℕ) (r : Refutation) : Type 0 where
+  pub accepted : AcceptedRefutation q r
+  pub within : IfSome budget (λ most. length r.steps ≤ most + 1)
+
 -- instances, and as many steps after their clauses as the budget allows: accepted and nonempty, and none contains a clause that stood before it
 pub record IsSpentOver (set : SkolemSet) (u : Universe) (budget : Option ℕ) (r : Refutation) : Type 0 where
   pub ground : Ground
@@ -39,7 +44,7 @@ IsSpentOn q budget r = IsSpentOver (skolem_of q) (universe (skolem_of q)) budget
 
 -- what each answer carries
 abbrev pub Decides : Query → Option ℕ → Decision → Type 0
-Decides q budget (Refuted r) = AcceptedRefutation q r
+Decides q budget (Refuted r) = IsRefutationOf q budget r
 Decides q budget (Found s) = Satisfies q s
 Decides q budget (Spent r) = IsSpentOn q budget r
 Decides q budget (TooLarge size) = size ≡ size_of_query q

@@ -1,3 +1,4 @@
+use Rattle.std.specs.Prelude.{◌≤◌, ◌+◌, IfSome}
 use Rattle.std.proofs.Common.{rules, ◌≡◌, List, Bool, length, sym, ap, subst, ◌∙◌}
 use Rattle.sw_logic.specs.Queries.{Satisfies}
 use Rattle.sw_sat.specs.Answers.{IsModel, IsRefutation, IsSpent}
@@ -59,7 +60,9 @@ returns-in-Refuted c =
     let r : IsRefutation g.cnf c.args.budget c.in-Refuted.steps.items = rw c.in-Refuted.is at c.in_ok-values.ensures in
     let here = refuted set u g is (record { all = c.in-Ok.ensures.0; made = c.in_ok-ground.ensures }) c.args.budget c.in-Refuted.steps.items r in
     let steps = subst (λ (ss : List Derived). Accepts set u (record { instances = is; steps = ss })) (sym c.from_vec-steps.ensures) here in
-    (of_query (λ (x : SkolemSet) (y : Universe). Accepts x y (record { instances = is; steps = c.from_vec-steps.result })) q set u c.requires.set c.requires.prepared.universe steps, λ z. z)
+    let accepted = of_query (λ (x : SkolemSet) (y : Universe). Accepts x y (record { instances = is; steps = c.from_vec-steps.result })) q set u c.requires.set c.requires.prepared.universe steps in
+    let within = subst (λ (ss : List Derived). IfSome c.args.budget (λ most. length ss ≤ most + 1)) (sym c.from_vec-steps.ensures) r.within in
+    (record { accepted = accepted; within = within }, λ z. z)
 
 pub returns-in-Spent : goal.returns-in-Spent
 returns-in-Spent c =
