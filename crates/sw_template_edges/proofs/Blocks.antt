@@ -1,23 +1,23 @@
 -- The edges of a formula under a template's prefix are among those of the prefix.
-use Rattle.std.specs.Prelude.{◌≡◌, ℕ, ◌+◌, ◌<◌, Bool, true, false, not, List, [], ◌∷◌, ◌++◌, map, Contains, if◌then◌else◌}
-use Rattle.std.specs.List.{AllByRecursion, flat_map, enumerate_from, range_with_len}
+use Rattle.std.specs.Prelude.{◌≡◌, ℕ, ◌+◌, ◌<◌, Bool, true, false, not, List, [], ◌∷◌, ◌++◌, map, Contains, cond, if◌then◌else◌}
+use Rattle.std.specs.List.{AllByRecursion, flat_map, enumerate_from, filter, range_with_len}
 use Rattle.std.specs.Fmt.{decimal}
 use Rattle.std.proofs.Common.{rules, refl, sym, ap, subst, ◌∙◌}
 use Rattle.std.proofs.lemmas.Bool.{false≢true}
-use Rattle.sw_lists.proofs.Each.{each-append, each-front, each-back, each-map, each-weaker, each-any, each-flat_map, each-unflat_map, each-contained}
+use Rattle.sw_lists.proofs.Each.{each-append, each-front, each-back, each-map, each-weaker, each-any, each-flat_map, each-contained}
 use Rattle.sw_logic.specs.declared.syntax.Binder.{Binder}
 use Rattle.sw_logic.specs.declared.syntax.Edge.{Edge}
 use Rattle.sw_logic.specs.declared.syntax.Formula as formulas
 use Rattle.sw_logic.specs.declared.syntax.Formula.{Formula}
 use Rattle.sw_logic.specs.declared.syntax.Formula.TheOpen.{Formula-F}
 use Rattle.sw_logic.specs.declared.syntax.Formula.TheVariants.{ForAll, Exists}
-use Rattle.sw_logic.specs.Strata.{Part, part_step, edge, edges_between, depended, sorts_of, formula_edges, AreWithin}
+use Rattle.sw_logic.specs.Strata.{Part, part_step, edge, edges_between, depended, sorts_of, formula_edges}
 use Rattle.sw_meaning.specs.declared.protocol.Protocol.{Protocol}
 use Rattle.sw_meaning.specs.declared.template.Run.{Run}
 use Rattle.sw_meaning.specs.declared.template.Template.{Template}
 use Rattle.sw_meaning.specs.Space.{InSpace, Block, same_quantifier, binders_of, before_blocks, blocks, quantified, any_of, all_of}
-use Rattle.sw_template_edges.specs.Prefix.{edge_between, edges_along, template_edges}
-use Rattle.sw_template_edges.specs.Laws.{FormulasAddTheseEdges, TemplateEdgesAreWithin}
+use Rattle.sw_template.specs.Edges.{edges_to, edges_along, template_edges}
+use Rattle.sw_template_edges.specs.Laws.{FormulasAddTheseEdges}
 use Rattle.sw_template_edges.proofs.Bodies.{part_of, HasNoEdges, body_none}
 
 abbrev block : Bool → List Binder → Block
@@ -117,28 +117,28 @@ module _ (all : List Edge) (positive : Bool) where
       merged true false i j = (i, k)
       merged false true i j = (i, k)
 
-  other_quantifier : (u v : Bool) (e : Edge) → AllByRecursion (Contains all) (if same_quantifier u v then [] else e ∷ []) → u ≡ positive → v ≡ not positive → Contains all e
-  other_quantifier true false e h i j = h.0
-  other_quantifier false true e h i j = h.0
-  other_quantifier true true e h i j = absurd (apart positive i j)
+  -- from a run that is universal there to the later ones that are existential
+  reach_to : (run : Run) (later : List Run) → run.universal ≡ positive → AllByRecursion (Contains all) (edges_to run later) → AllByRecursion (λ (x : Run). x.universal ≡ not positive → Contains all (edge run.sort x.sort)) later
+  reach_to run [] e h = tt
+  reach_to run (other ∷ later) e h = let both = kept run.universal other.universal e h in (both.0, reach_to run later e both.1)
     where
-      apart : (b : Bool) → true ≡ b → true ≡ not b → ⊥
-      apart true i j = false≢true (sym j)
-      apart false i j = false≢true (sym i)
-  other_quantifier false false e h i j = absurd (apart positive i j)
-    where
-      apart : (b : Bool) → false ≡ b → false ≡ not b → ⊥
-      apart true i j = false≢true i
-      apart false i j = false≢true j
+      apart : (u b : Bool) → u ≡ b → u ≡ not b → ⊥
+      apart u true i j = false≢true (sym j ∙ i)
+      apart u false i j = false≢true (sym i ∙ j)
+
+      kept : (u v : Bool) → u ≡ positive → AllByRecursion (Contains all) (map (λ (x : Run). edge run.sort x.sort) (cond (not (same_quantifier u v)) (other ∷ filter (λ x. not (same_quantifier run.universal x.universal)) later) (filter (λ x. not (same_quantifier run.universal x.universal)) later)))
+          → (v ≡ not positive → Contains all (edge run.sort other.sort)) × AllByRecursion (Contains all) (edges_to run later)
+      kept true false i h = (λ j. h.0, h.1)
+      kept false true i h = (λ j. h.0, h.1)
+      kept true true i h = (λ j. absurd (apart true positive i j), h)
+      kept false false i h = (λ j. absurd (apart false positive i j), h)
 
   order_blocks : (n : ℕ) (runs : List Run) → AllByRecursion (Contains all) (edges_along runs) → Orders (blocks n runs)
   order_blocks n [] h = tt
   order_blocks n (run ∷ runs) h =
-      let here = each-unflat_map (Contains all) (edge_between run) runs (each-front (Contains all) (flat_map (edge_between run) runs) (edges_along runs) h) in
-      let there = each-back (Contains all) (flat_map (edge_between run) runs) (edges_along runs) h in
-      let later : run.universal ≡ positive → Reaches run.sort (blocks (n + run.count) runs) = λ e.
-      reach_blocks run.sort (n + run.count) runs (each-weaker (λ (x : Run). AllByRecursion (Contains all) (edge_between run x)) (λ (x : Run). x.universal ≡ not positive → Contains all (edge run.sort x.sort))
-      (λ x r j. other_quantifier run.universal x.universal (edge run.sort x.sort) r e j) runs here) in
+      let here = each-front (Contains all) (edges_to run runs) (edges_along runs) h in
+      let there = each-back (Contains all) (edges_to run runs) (edges_along runs) h in
+      let later : run.universal ≡ positive → Reaches run.sort (blocks (n + run.count) runs) = λ e. reach_blocks run.sort (n + run.count) runs (reach_to run runs e here) in
       order_before run.universal (binders_of n run) (blocks (n + run.count) runs)
       (λ e. each-map (λ (x : Binder). Reaches x.sort (blocks (n + run.count) runs)) (λ k. record { name = 95 ∷ decimal k; sort = run.sort }) (range_with_len (n + 1) run.count)
       (each-any (λ k. Reaches run.sort (blocks (n + run.count) runs)) (λ k. later e) (range_with_len (n + 1) run.count)))
@@ -189,21 +189,3 @@ formulas_add_these_edges p t f positive h =
     let all = template_edges t in
     subst (λ (g : Formula). AllByRecursion (Contains all) (formula_edges g positive)) (sym h.is)
     (under all positive (any_of (map all_of h.body)) (body_none t.terms h.body h.literals) (blocks 0 t.prefix) (order_blocks all positive 0 t.prefix (each-contained all)) [] tt)
-
--- ---- between sorts that there are
-between_within : (sorts : ℕ) (run : Run) (runs : List Run) → run.sort < sorts → AllByRecursion (λ (r : Run). r.sort < sorts) runs → AreWithin sorts (flat_map (edge_between run) runs)
-between_within sorts run runs h k =
-    let P : Edge → Type 0 = λ e. (e.from < sorts) × (e.to < sorts) in
-    each-flat_map P (edge_between run) runs (each-weaker (λ (r : Run). r.sort < sorts) (λ (r : Run). AllByRecursion P (edge_between run r)) (λ r i. one (same_quantifier run.universal r.universal) (edge run.sort r.sort) (h, i)) runs k)
-  where
-    one : (b : Bool) (e : Edge) → (e.from < sorts) × (e.to < sorts) → AllByRecursion (λ (x : Edge). (x.from < sorts) × (x.to < sorts)) (if b then [] else e ∷ [])
-    one true e i = tt
-    one false e i = (i, tt)
-
-along_within : (sorts : ℕ) (runs : List Run) → AllByRecursion (λ (r : Run). r.sort < sorts) runs → AreWithin sorts (edges_along runs)
-along_within sorts [] h = tt
-along_within sorts (run ∷ runs) h =
-    each-append (λ (e : Edge). (e.from < sorts) × (e.to < sorts)) (flat_map (edge_between run) runs) (edges_along runs) (between_within sorts run runs h.0 h.1) (along_within sorts runs h.1)
-
-pub template_edges_are_within : TemplateEdgesAreWithin
-template_edges_are_within sorts t h = along_within sorts t.prefix h

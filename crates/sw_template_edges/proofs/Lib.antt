@@ -1,2 +1,2 @@
-mod Blocks
-mod Bodies
+pub mod Bodies
+pub mod Blocks

@@ -1,2 +1,1 @@
-pub mod Prefix
 pub mod Laws

@@ -1,8 +1,9 @@
-//! The edges between sorts that a template's formulas have.
+//! The law of a template's edges: no formula of it adds others.
 #![tactic(auto)]
 
-pub mod laws;
-mod prefix;
+ghost use Rattle.sw_template_edges.specs.Laws.{FormulasAddTheseEdges};
 
-pub use laws::{formulas_add_these_edges, template_edges_are_within};
-pub use prefix::edges;
+/// What a formula of the template, or its negation, adds is among the template's edges.
+pub fn formulas_add_these_edges()
+    ensures { FormulasAddTheseEdges }
+{}
