@@ -2,8 +2,7 @@
 use Rattle.std.specs.Prelude.{◌≡◌, ℕ, zero, suc, ◌+◌, ◌*◌, ◌-◌, ◌/◌, ◌<◌, ◌≤◌, List, [], ◌∷◌, ◌++◌, slice_index_or}
 use Rattle.std.specs.List.{range_with_len}
 use Rattle.std.proofs.Common.{refl, arith, ap, ◌∙◌}
-use Rattle.sw_cover.proofs.TermCounts.{total}
-use Rattle.sw_cover.proofs.Counts.{binomial}
+use Rattle.sw_cover.specs.Counting.{total, binomial}
 use Rattle.sw_template.specs.Counts.{capped, row_after}
 
 pub capped_both : (a b : ℕ) → capped (capped a + capped b) ≡ capped (a + b)

@@ -11,7 +11,8 @@ use Rattle.sw_meaning.specs.Classes.{choices}
 use Rattle.sw_lists.proofs.Each.{each-flat_map, each-weaker}
 use Rattle.sw_cover.proofs.Rising.{IsChoice, each_choice}
 use Rattle.sw_cover.proofs.TermCounts.{length_flat, total_same, length_map}
-use Rattle.sw_cover.proofs.Counts.{binomial, choices_count}
+use Rattle.sw_cover.specs.Counting.{binomial}
+use Rattle.sw_cover.proofs.Counts.{choices_count}
 use Rattle.sw_template.specs.declared.cubes.CubeLits.{CubeLits}
 use Rattle.sw_template.specs.Counts.{capped, cubes_up_to, cubes_count, most_in}
 use Rattle.sw_meaning.specs.Classes.{cubes_of}

@@ -1,5 +1,5 @@
 -- What is counted before it is made is what there is.
-use Rattle.std.specs.Prelude.{◌⊎◌, ◌≡◌, ℕ, zero, suc, ◌+◌, ◌-◌, ◌*◌, ◌^◌, ◌<◌, ◌≤◌, ◌==◌, Bool, false, min, Some, List, [], ◌∷◌, ◌++◌, map, length, take, drop, replicate, slice_get, slice_index_or, unwrap_or}
+use Rattle.std.specs.Prelude.{◌⊎◌, ◌≡◌, ℕ, zero, suc, ◌+◌, ◌-◌, ◌*◌, ◌^◌, ◌<◌, ◌≤◌, ◌==◌, Bool, false, min, Some, List, [], ◌∷◌, ◌++◌, map, length, take, drop, replicate, slice_get, slice_index_or, unwrap_or, true}
 use Rattle.std.specs.List.{AllByRecursion, flat_map, enumerate_from, range_with_len}
 use Rattle.std.proofs.Common.{refl, arith, ap, sym, subst, get_or, ◌∙◌, inl, inr, append_assoc, length-append}
 use Rattle.std.proofs.lemmas.List.{length-replicate}
@@ -17,9 +17,10 @@ use Rattle.sw_logic.specs.declared.syntax.Formula.TheVariants.{Holds, Equal}
 use Rattle.sw_meaning.specs.declared.template.Template.{Template}
 use Rattle.sw_meaning.specs.Classes.{scope_of, terms_of, tuples, pairs, symbols_of, giving, is_relation, is_function, atoms}
 use Rattle.sw_lists.proofs.Each.{each-filter, each-weaker, each-map, each-any}
-use Rattle.sw_cover.specs.Cover.{AreDeclared}
-use Rattle.sw_cover.proofs.TermCounts.{product, total, terms_count, map_map}
-use Rattle.sw_cover.proofs.Counts.{binomial, atoms_count}
+use Rattle.sw_logic.specs.Signatures.{is_signature}
+use Rattle.sw_cover.specs.Counting.{product, total, binomial}
+use Rattle.sw_cover.proofs.TermCounts.{terms_count, map_map}
+use Rattle.sw_cover.proofs.Counts.{atoms_count}
 use Rattle.sw_template.specs.Counts.{capped, count_at, arguments_at, next_count, atoms_at, counts_told}
 use Rattle.sw_template.specs.Listing.{HaveArguments, list_at, tuples_at, applied, next_terms, table_of, equalities, atoms_by}
 use Rattle.sw_template.proofs.Numbered.{took}
@@ -191,7 +192,7 @@ module _ (sig : Signature) (scope : List ℕ) (have : HaveArguments sig) where
       total_each (λ s. arguments_at (counts_told sig scope d) s.1) (λ s. product (map (λ sort. length (terms_of sig scope d sort)) s.1.args)) ss
       (each-weaker AreWithin (λ s. capped (arguments_at (counts_told sig scope d) s.1) ≡ capped (product (map (λ sort. length (terms_of sig scope d sort)) s.1.args))) (arguments_told d) ss all)
 
-  next_told : AreDeclared sig → (d sort : ℕ) → sort < length sig.sorts → capped (next_count sig (counts_told sig scope 0) (counts_told sig scope d) sort) ≡ capped (length (terms_of sig scope (suc d) sort))
+  next_told : is_signature sig ≡ true → (d sort : ℕ) → sort < length sig.sorts → capped (next_count sig (counts_told sig scope 0) (counts_told sig scope d) sort) ≡ capped (length (terms_of sig scope (suc d) sort))
   next_told declared d sort h =
       joined (count_at (counts_told sig scope 0) sort) (total (λ s. arguments_at (counts_told sig scope d) s.1) (giving sort (symbols_of sig is_function)))
       (length (terms_of sig scope 0 sort)) (total (λ s. product (map (λ sort. length (terms_of sig scope d sort)) s.1.args)) (giving sort (symbols_of sig is_function))) (length (terms_of sig scope (suc d) sort))
@@ -200,7 +201,7 @@ module _ (sig : Signature) (scope : List ℕ) (have : HaveArguments sig) where
       joined : (a b m n l : ℕ) → a ≡ capped m → capped b ≡ capped n → l ≡ m + n → capped (a + b) ≡ capped l
       joined a b m n l e f g = omega (arith, e, f, g)
 
-  pub counts_next : AreDeclared sig → (d : ℕ) → map (λ sort. capped (next_count sig (counts_told sig scope 0) (counts_told sig scope d) sort)) (range_with_len 0 (length sig.sorts)) ≡ counts_told sig scope (d + 1)
+  pub counts_next : is_signature sig ≡ true → (d : ℕ) → map (λ sort. capped (next_count sig (counts_told sig scope 0) (counts_told sig scope d) sort)) (range_with_len 0 (length sig.sorts)) ≡ counts_told sig scope (d + 1)
   counts_next declared d =
       let same : suc d ≡ d + 1 = omega arith in
       map_each (λ sort. capped (next_count sig (counts_told sig scope 0) (counts_told sig scope d) sort)) (λ sort. capped (length (terms_of sig scope (suc d) sort))) (range_with_len 0 (length sig.sorts))
@@ -276,7 +277,7 @@ module _ (sig : Signature) (scope : List ℕ) where
   pub told_all : HaveArguments sig → (d : ℕ) (ns : List ℕ) → ns ≡ counts_told sig scope d → AllByRecursion (λ n. n ≤ 18446744073709551616) ns
   told_all have d ns e = subst (AllByRecursion (λ n. n ≤ 18446744073709551616)) (sym e) (told_most sig scope have d)
 
-  pub counted_on : HaveArguments sig → AreDeclared sig → (d : ℕ) (next a b : List ℕ) → next ≡ map (λ sort. capped (next_count sig a b sort)) (range_with_len 0 (length sig.sorts)) → a ≡ counts_told sig scope 0 → b ≡ counts_told sig scope d
+  pub counted_on : HaveArguments sig → is_signature sig ≡ true → (d : ℕ) (next a b : List ℕ) → next ≡ map (λ sort. capped (next_count sig a b sort)) (range_with_len 0 (length sig.sorts)) → a ≡ counts_told sig scope 0 → b ≡ counts_told sig scope d
       → next ≡ counts_told sig scope (d + 1)
   counted_on have declared d next a b e f g =
       e ∙ (ap (λ x. map (λ sort. capped (next_count sig x b sort)) (range_with_len 0 (length sig.sorts))) f

@@ -5,8 +5,7 @@ use Rattle.sw_logic.specs.declared.syntax.Symbol.{Symbol}
 use Rattle.sw_logic.specs.declared.syntax.Signature.{Signature}
 use Rattle.sw_meaning.specs.declared.template.Template.{Template}
 use Rattle.sw_meaning.specs.Classes.{choices, symbols_of, is_relation, is_function, giving, terms_of}
-use Rattle.sw_cover.proofs.TermCounts.{product, total}
-use Rattle.sw_cover.proofs.Counts.{binomial}
+use Rattle.sw_cover.specs.Counting.{product, total, binomial}
 
 -- a count as it is told, at most 2^64
 abbrev pub capped : ℕ → ℕ

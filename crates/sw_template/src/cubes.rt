@@ -4,7 +4,7 @@ ghost use Rattle.std.specs.List.{range_with_len};
 ghost use Rattle.sw_meaning.specs.Classes.{choices};
 ghost use Rattle.sw_meaning.specs.Classes.{cubes_of};
 ghost use Rattle.sw_template.specs.Counts.{capped, row_after, cubes_count, cubes_up_to, most_in};
-ghost use Rattle.sw_cover.proofs.Counts.{binomial};
+ghost use Rattle.sw_cover.specs.Counting.{binomial};
 ghost use Rattle.sw_template.specs.Limits.{RefusesCubes};
 ghost use Rattle.sw_template.specs.Lits.{IsPadded, lits_of};
 

@@ -1,5 +1,5 @@
 use Rattle.std.proofs.Common.{◌≡◌, ◌*◌, ◌-◌, ◌/◌, arith}
-use Rattle.sw_cover.proofs.Counts.{binomial}
+use Rattle.sw_cover.specs.Counting.{binomial}
 use Rattle.sw_template.proofs.Capping.{pairs_are}
 use Rattle.sw_template.proofs.capped.capped_pairs.Goals as goal
 

@@ -1,6 +1,5 @@
 use Rattle.std.proofs.Common.{ap, ◌∙◌}
-use Rattle.sw_cover.proofs.TermCounts.{total}
-use Rattle.sw_cover.proofs.Counts.{binomial}
+use Rattle.sw_cover.specs.Counting.{total, binomial}
 use Rattle.sw_meaning.specs.Classes.{is_relation, symbols_of}
 use Rattle.sw_template.specs.Counts.{capped, count_at, arguments_at}
 use Rattle.sw_template.proofs.Counting.{capped_sum_step, plus, total_next}
