@@ -1,0 +1,9 @@
+pub mod Walking
+pub mod Steps
+pub mod Completing
+pub mod Parting
+pub mod Rows
+pub mod Numbering
+pub mod Tallies
+pub mod Making
+pub mod Testing

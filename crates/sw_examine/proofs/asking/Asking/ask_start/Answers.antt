@@ -1,0 +1,15 @@
+use Rattle.std.proofs.Common.{sym, subst}
+use Rattle.sw_logic.specs.Queries.{IsQuery}
+use Rattle.sw_ground.specs.Verdict.{IsStratifiedQuery}
+use Rattle.sw_examine.proofs.Decided.{start_query_is, start_query_stratified}
+use Rattle.sw_examine.proofs.asking.Asking.ask_start.Goals as goal
+
+pub ask-requires-clause-query : goal.ask-requires-clause-query
+ask-requires-clause-query c =
+    let self = c.args.self.now in
+    subst IsQuery (sym c.in_ok-query.ensures) (start_query_is self.protocol.now self.list.now self.formula.now c.requires.well_formed c.requires.ask)
+
+pub ask-requires-clause-strata : goal.ask-requires-clause-strata
+ask-requires-clause-strata c =
+    let self = c.args.self.now in
+    subst IsStratifiedQuery (sym c.in_ok-query.ensures) (start_query_stratified self.protocol.now self.list.now self.formula.now c.requires.well_formed c.requires.ask)

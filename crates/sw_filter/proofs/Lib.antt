@@ -1,0 +1,5 @@
+pub mod Good
+pub mod Longer
+pub mod Narrow
+pub mod Marked
+pub mod Frame

@@ -1,0 +1,4 @@
+pub mod Filters
+pub mod Views
+pub mod Good
+pub mod Laws

@@ -1,0 +1,6 @@
+//! A pool of filters that only grows, so that views hold its filters while it does.
+#![tactic(auto)]
+
+pub mod pool;
+
+pub use pool::{Pool, PublishError, Seen};
