@@ -17,8 +17,8 @@ use Rattle.sw_meaning.specs.declared.template.Run.{Run}
 use Rattle.sw_meaning.specs.declared.template.Template.{Template}
 use Rattle.sw_meaning.specs.Space.{InSpace, Block, same_quantifier, binders_of, before_blocks, blocks, quantified, any_of, all_of}
 use Rattle.sw_template.specs.Edges.{edges_to, edges_along, template_edges}
-use Rattle.sw_template_edges.specs.Laws.{FormulasAddTheseEdges}
-use Rattle.sw_template_edges.proofs.Bodies.{part_of, HasNoEdges, body_none}
+use Rattle.sw_template_laws.specs.Laws.{FormulasAddTheseEdges}
+use Rattle.sw_template_laws.proofs.Bodies.{part_of, HasNoEdges, body_none}
 
 abbrev block : Bool → List Binder → Block
 block universal binders = record { universal = universal; binders = binders }

@@ -1,5 +1,0 @@
-use Rattle.sw_template_edges.proofs.Blocks.{formulas_add_these_edges}
-use Rattle.sw_template_edges.proofs.formulas_add_these_edges.Goals as goal
-
-pub returns : goal.returns
-returns c = formulas_add_these_edges
