@@ -6,3 +6,4 @@ pub mod Numbered
 pub mod Termed
 pub mod Counting
 pub mod Declared
+pub mod Edging

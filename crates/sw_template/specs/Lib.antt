@@ -4,3 +4,4 @@ pub mod Listing
 pub mod Limits
 pub mod Prefix
 pub mod Lits
+pub mod Edges

@@ -6,14 +6,17 @@ pub mod body;
 mod capped;
 mod counts;
 pub mod cubes;
+
 pub mod errors;
 pub mod holding;
 pub mod literals;
+pub mod prefix;
 mod terms;
 
 pub use bodies::Bodies;
 pub use body::Body;
 pub use cubes::{CubeLits, Cubes};
+pub use prefix::edges;
 pub use errors::{CubesError, LiteralsError};
 pub use holding::holds_body;
 pub use literals::Literals;
