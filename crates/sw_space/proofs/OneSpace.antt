@@ -14,7 +14,8 @@ use Rattle.sw_protocol.proofs.OneReading.{same_first}
 use Rattle.sw_template.specs.Limits.{IsOver}
 use Rattle.sw_template.specs.Edges.{template_edges}
 use Rattle.sw_template_text.specs.declared.errors.TemplateError.{TemplateError}
-use Rattle.sw_template_text.specs.Texts.{OneTemplate}
+use Rattle.sw_template_text.specs.Texts.{}
+use Rattle.sw_template_text.proofs.OneTemplate.{one_template}
 use Rattle.sw_enumerate.specs.declared.errors.SpaceError.{SpaceError}
 use Rattle.sw_enumerate.specs.Refusals.{RefusesSpace}
 use Rattle.sw_space.specs.declared.faults.SpaceFault.{SpaceFault}
@@ -101,17 +102,17 @@ same_template t u h = cc
 apart : (t : Template) (e : TemplateError) → ◌≡◌ {A = Result Template TemplateError} (Ok t) (Err e) → ⊥
 apart t e h = cc
 
-module _ (p : Protocol) (text : List ℕ) (one : OneTemplate) where
+module _ (p : Protocol) (text : List ℕ) where
   one_answer : (r s : Result Template SpaceFault) → HasSpace p text r → HasSpace p text s → r ≡ s
   one_answer r s (HasSpace.unread e f has is x) (HasSpace.unread d g other at y) =
-      x ∙ (ap Err (same_fault (read_fault e) (read_fault d) f g (ap read_fault (same_error e d (one p.signature text (Err e) (Err d) has other))) is at) ∙ sym y)
-  one_answer r s (HasSpace.unread e f has is x) (HasSpace.read t other fits) = absurd (apart t e (one p.signature text (Ok t) (Err e) other has))
-  one_answer r s (HasSpace.read t has fits) (HasSpace.unread e f other is x) = absurd (apart t e (one p.signature text (Ok t) (Err e) has other))
+      x ∙ (ap Err (same_fault (read_fault e) (read_fault d) f g (ap read_fault (same_error e d (one_template p.signature text (Err e) (Err d) has other))) is at) ∙ sym y)
+  one_answer r s (HasSpace.unread e f has is x) (HasSpace.read t other fits) = absurd (apart t e (one_template p.signature text (Ok t) (Err e) other has))
+  one_answer r s (HasSpace.read t has fits) (HasSpace.unread e f other is x) = absurd (apart t e (one_template p.signature text (Ok t) (Err e) has other))
   one_answer r s (HasSpace.read t has fits) (HasSpace.read u other more) =
-      one_fit p t r s fits (subst (λ x. Fits p x s) (same_template u t (one p.signature text (Ok u) (Ok t) other has)) more)
+      one_fit p t r s fits (subst (λ x. Fits p x s) (same_template u t (one_template p.signature text (Ok u) (Ok t) other has)) more)
 
-pub one_space : OneTemplate → OneSpace
-one_space one p text r s a b = one_answer p text one r s a b
+pub one_space : OneSpace
+one_space p text r s a b = one_answer p text r s a b
 
 -- ---- the answers of the calls
 

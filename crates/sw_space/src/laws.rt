@@ -4,6 +4,4 @@ ghost use Rattle.sw_space.specs.Named.{OneSpace};
 /// A text has one answer over a protocol.
 pub fn one_space()
     ensures { OneSpace }
-{
-    sw_template_text::laws::one_template();
-}
+{}
