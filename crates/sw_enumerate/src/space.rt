@@ -163,6 +163,7 @@ impl Space {
     pub fn first_of(&self, part: u64) -> Option<Body>
         requires { part < length (parts_in self.now) }
         ensures cubes { option_map (λ b. b.cubes) result ≡ slice_get (part_in self.now part) 0 }
+        ensures among { IfSome result (λ b. Contains (part_in self.now part) b.cubes) }
         ensures template { IfSome result (λ b. b.template ≡ 0) }
     {
         let literals = self.literals_of(part);
@@ -178,6 +179,7 @@ impl Space {
         requires part { part < length (parts_in self.now) }
         requires is { Contains (part_in self.now part) body.now.cubes }
         ensures cubes { (i : ℕ) → slice_get (part_in self.now part) i ≡ Some body.now.cubes → option_map (λ b. b.cubes) result ≡ slice_get (part_in self.now part) (i + 1) }
+        ensures among { IfSome result (λ b. Contains (part_in self.now part) b.cubes) }
         ensures template { IfSome result (λ b. b.template ≡ 0) }
     {
         let literals = self.literals_of(part);
