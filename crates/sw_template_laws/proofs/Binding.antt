@@ -20,10 +20,10 @@ use Rattle.sw_template_laws.specs.Laws.{FormulasBindFew}
 abbrev Flat : Formula → Type 0
 Flat f = binds f ≡ 0
 
-holds_flat : (symbol : ℕ) (args : List Term) → Flat (Holds symbol false args)
+pub holds_flat : (symbol : ℕ) (args : List Term) → Flat (Holds symbol false args)
 holds_flat symbol args = search (rules, formulas.the_lemmas)
 
-equal_flat : (a b : Term) → Flat (Equal a b)
+pub equal_flat : (a b : Term) → Flat (Equal a b)
 equal_flat a b = search (rules, formulas.the_lemmas)
 
 not_flat : (f : Formula) → Flat f → Flat (Not f)
@@ -52,7 +52,7 @@ any_of_flat [] h = any_flat [] h
 any_of_flat (f ∷ []) h = h.0
 any_of_flat (f ∷ g ∷ fs) h = any_flat (f ∷ g ∷ fs) h
 
-pub atom_flat : (depth : ℕ) (f : Formula) → IsAtom depth f → Flat f
+atom_flat : (depth : ℕ) (f : Formula) → IsAtom depth f → Flat f
 atom_flat depth f (IsAtom.holds symbol args e h) = ap binds e ∙ holds_flat symbol args
 atom_flat depth f (IsAtom.equal a b e d h k) = ap binds e ∙ equal_flat a b
 
