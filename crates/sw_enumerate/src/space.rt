@@ -4,7 +4,6 @@ ghost use Rattle.sw_logic.specs.Signatures.{is_signature};
 ghost use Rattle.sw_meaning.specs.Classes.{part_of};
 ghost use Rattle.sw_enumerate.specs.Refusals.{RefusesSpace, of_cubes};
 ghost use Rattle.sw_enumerate.specs.Spaces.{IsSpaceOf, IsWithin, Made, classes_in, parts_in, part_in, formula_in};
-ghost use Rattle.sw_template.specs.Bodies.{AreCubes};
 ghost use Rattle.sw_template.specs.Prefix.{variable_count};
 
 use crate::errors::{CLASSES, SpaceError};
@@ -138,9 +137,8 @@ impl Space {
         self.walk.count()
     }
 
-    /// The formula of a class.
+    /// The formula of a class. In another body a number that is no cube stands for an empty one.
     pub fn formula(&self, body: &Body) -> Result<Formula, AllocError>
-        requires { AreCubes self.now.cubes body.now.cubes }
         ensures { IfOk result (λ f. f ≡ formula_in self.now body.now.cubes) }
     {
         formula_of(

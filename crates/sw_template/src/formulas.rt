@@ -4,7 +4,6 @@ ghost use Rattle.std.specs.Fmt.{decimal};
 ghost use Rattle.sw_logic.specs.declared.syntax.Formula.TheVariants.{False};
 ghost use Rattle.sw_meaning.specs.Space.{all_of, any_of, before_blocks, blocks, binders_of, quantified};
 ghost use Rattle.sw_meaning.specs.Classes.{signed, cube_formulas, formula_by};
-ghost use Rattle.sw_template.specs.Bodies.{AreCubes};
 ghost use Rattle.sw_template.specs.Prefix.{variable_count};
 
 use crate::body::Body;
@@ -72,9 +71,11 @@ fn cube_formula(
     cubes: &Cubes,
     cube: u32,
 ) -> Result<Formula, AllocError>
-    requires { cube < length cubes.now }
     ensures { IfOk result (λ f. f ≡ all_of (cube_formulas literals.now cubes.now cube)) }
 {
+    if cube >= cubes.count() {
+        return Ok(Formula::All(Items::new(alloc)));
+    }
     let lits = cubes.literals_in(cube);
     let numbers = &lits.literals[..lits.len as usize];
     Ok(all_of(literal_formulas(alloc, literals, numbers)?))
@@ -87,7 +88,6 @@ fn body_formulas(
     cubes: &Cubes,
     body: &[u32],
 ) -> Result<Items<Formula>, AllocError>
-    requires { AreCubes cubes.now body.now }
     ensures { IfOk result (λ fs. fs ≡ map all_of (map (cube_formulas literals.now cubes.now) body.now)) }
 {
     let mut formulas = Items::new(alloc);
@@ -185,7 +185,7 @@ fn under_prefix(alloc: Global, prefix: &[Run], formula: Formula) -> Result<Formu
     under_runs(alloc, run.universal, binders, later, run.count, formula)
 }
 
-/// The formula of a body. Its cubes are those of the template over these literals.
+/// The formula of a body. A number that is no cube stands for an empty one.
 pub fn formula_of(
     alloc: Global,
     template: &Template,
@@ -193,8 +193,7 @@ pub fn formula_of(
     cubes: &Cubes,
     body: &Body,
 ) -> Result<Formula, AllocError>
-    requires variables { variable_count template.now.prefix ≤ 6 }
-    requires cubes { AreCubes cubes.now body.now.cubes }
+    requires { variable_count template.now.prefix ≤ 6 }
     ensures { IfOk result (λ f. f ≡ formula_by template.now literals.now cubes.now body.now.cubes) }
 {
     let matrix = any_of(body_formulas(alloc, literals, cubes, body.cubes())?);
