@@ -10,16 +10,16 @@ use Rattle.sw_words.specs.declared.commands.Command.{Command}
 use Rattle.sw_words.specs.declared.commands.Command.TheVariants.{Synth, Space, Print}
 use Rattle.sw_words.specs.declared.commands.Options.{Options}
 use Rattle.sw_meaning.specs.declared.template.Template.{Template}
-use Rattle.sw_meaning.specs.Small.{IsSmall}
-use Rattle.sw_run.specs.Words.{NamesBy, is_plain, is_served, asks_check}
-use Rattle.sw_run.specs.Ending.{Change, Answer, Faults, Misreads, Reads, Searches, Reports, Prints, Sizes, IsInput, IsUnbuilt, IsTooLong, Allowed, AllowedCheck, refused, sized}
+use Rattle.sw_run.specs.Words.{is_plain, is_served, asks_check}
+use Rattle.sw_run.specs.Ending.{Change, Answer, Faults, Misreads, Reads, Searches, Reports, Stops, NamesBy, Prints, Sizes, IsInput, IsTooLong, Allowed, AllowedCheck, refused, sized}
 use Rattle.sw_run.specs.Laws.{Tells, LacksMemory, IsRefusedUnread, WordsChoose, InputChooses, SearchChooses, SizeChooses, RowsExcludeEachOther}
 use Rattle.sw_run.specs.declared.input.TheConstants.{INPUT_LIMIT}
 use Rattle.sw_run.specs.declared.told.Refusal.{Refusal}
-use Rattle.sw_run.specs.declared.told.Refusal.TheVariants.{Usage, TooLong, SpaceFaulty, Unbuilt, ReadFault}
+use Rattle.sw_run.specs.declared.told.Refusal.TheVariants.{Usage, TooLong, SpaceFaulty, BreadthFaulty, Unbuilt, ReadFault}
 use Rattle.sw_space.specs.declared.faults.SpaceFault.{SpaceFault}
 use Rattle.sw_space.specs.Named.{HasSpace}
 use Rattle.sw_space.proofs.OneSpace.{one_space}
+use Rattle.sw_run.proofs.Naming.{same_named, same_fault, unfaulty, named_not_faulty, one_breadth_fault}
 use Rattle.sw_run.proofs.Inputs.{one_fault, not_both, one_text}
 
 -- ---- words
@@ -183,31 +183,18 @@ module _ (input : Change) (bytes : List ℕ) (told : input.before ≡ Some bytes
 
 -- ---- protocols
 
--- what has a report is served
-pub not_unbuilt : (options : Options) (p : Protocol) (a : Answer) → Reports options p a → IsUnbuilt options p → ⊥
-not_unbuilt options p a r (inl large) = large r.small
-not_unbuilt options p a r (inr none) = none r.template r.named
-
 search_chooses : (options : Options) (p : Protocol) (a : Answer) → SearchChooses options p a
-search_chooses options p a = record { report = reported; unbuilt = refused_so }
+search_chooses options p a = record { told = told; faulty = faulty }
   where
-    reported : (t : Option Template) → IsSmall p → NamesBy options.breadth t → Searches options p a → Reports options p a
-    reported t small named (Searches.report r) = r
-    reported t small named (Searches.unbuilt (inl large) is) = absurd (large small)
-    reported t small named (Searches.unbuilt (inr none) is) = absurd (none t named)
+    told : (t : Option Template) → NamesBy options p t → Searches options p a → Reports options p a ⊎ Stops options p a
+    told t named (Searches.report r) = inl r
+    told t named (Searches.stopped s) = inr s
+    told t named (Searches.faulty text f e has is) = absurd (named_not_faulty options p t named text f e has)
 
-    refused_so : IsUnbuilt options p → Searches options p a → a ≡ refused Unbuilt
-    refused_so cause (Searches.report r) = absurd (not_unbuilt options p a r cause)
-    refused_so cause (Searches.unbuilt other is) = is
-
-same_named : (t u : Template) → ◌≡◌ {A = Result Template SpaceFault} (Ok t) (Ok u) → t ≡ u
-same_named t u h = cc
-
-same_fault : (e f : SpaceFault) → ◌≡◌ {A = Result Template SpaceFault} (Err e) (Err f) → e ≡ f
-same_fault e f h = cc
-
-unfaulty : (t : Template) (f : SpaceFault) → ◌≡◌ {A = Result Template SpaceFault} (Ok t) (Err f) → ⊥
-unfaulty t f h = cc
+    faulty : (text : List ℕ) (f : SpaceFault) → options.breadth ≡ Some text → HasSpace p text (Err f) → Searches options p a → a ≡ refused (BreadthFaulty f)
+    faulty text f e has (Searches.report r) = absurd (named_not_faulty options p r.template r.named text f e has)
+    faulty text f e has (Searches.stopped s) = absurd (named_not_faulty options p s.template s.named text f e has)
+    faulty text f e has (Searches.faulty other g e' has' is) = is ∙ ap (λ x. refused (BreadthFaulty x)) (one_breadth_fault options p other text g f e' e has' has)
 
 pub size_chooses : (text : List ℕ) (p : Protocol) (a : Answer) → SizeChooses text p a
 size_chooses text p a = record { sizes = sizes; faulty = faulty }

@@ -8,23 +8,32 @@ use Rattle.sw_words.specs.declared.commands.Command.{Command}
 use Rattle.sw_words.specs.declared.commands.Command.TheVariants.{Synth, Space, Print}
 use Rattle.sw_words.specs.declared.commands.Options.{Options}
 use Rattle.sw_meaning.specs.declared.template.Template.{Template}
-use Rattle.sw_meaning.specs.Small.{IsSmall}
-use Rattle.sw_run.specs.Words.{NamesBy, is_plain, is_served, asks_check}
+use Rattle.sw_run.specs.Words.{is_plain, is_served, asks_check}
 use Rattle.sw_edge.specs.Edge.{Rose}
-use Rattle.sw_run.specs.Ending.{Change, Answer, Faults, Reads, Searches, Reports, Prints, Sizes, IsUnbuilt, IsTooLong, IsUntouched, Allowed, AllowedCheck, Ends, refused, sized, word_status}
+use Rattle.sw_run.specs.Ending.{Change, Answer, Faults, Reads, Searches, Reports, Stops, NamesBy, Prints, Sizes, IsTooLong, IsUntouched, Allowed, AllowedCheck, Ends, refused, stop, sized}
 use Rattle.sw_run.specs.declared.input.TheConstants.{INPUT_LIMIT}
 use Rattle.sw_run.specs.declared.told.Refusal.{Refusal}
-use Rattle.sw_run.specs.declared.told.Refusal.TheVariants.{Usage, TooLong, SpaceFaulty, Unbuilt, ReadFault, NoMemory}
+use Rattle.sw_run.specs.declared.told.Refusal.TheVariants.{Usage, TooLong, SpaceFaulty, BreadthFaulty, Unbuilt, ReadFault, NoMemory}
 use Rattle.sw_space.specs.declared.faults.SpaceFault.{SpaceFault}
 use Rattle.sw_space.specs.Named.{HasSpace}
+use Rattle.sw_logic.specs.declared.syntax.Signature.{Signature}
+use Rattle.sw_report.specs.Words.{Query, word_status}
+use Rattle.sw_search.specs.Searches.{Ended, ended_line}
 
 -- want of memory
 abbrev pub LacksMemory : Answer → Type 0
 LacksMemory a = a ≡ refused NoMemory
 
--- want of memory, or a failed read
+-- a query that was spent, or that is too large, ended a search
+pub record IsEnded (a : Answer) : Type 0 where
+  pub sig : Signature
+  pub query : Query
+  pub ended : Ended
+  pub is : a ≡ stop (ended_line sig query ended)
+
+-- want of memory, a failed read, or a query that ended a search
 abbrev pub IsLost : Answer → Type 0
-IsLost a = LacksMemory a ⊎ (a ≡ refused ReadFault)
+IsLost a = LacksMemory a ⊎ ((a ≡ refused ReadFault) ⊎ IsEnded a)
 
 -- this refusal, and nothing was taken from the source
 abbrev pub IsRefusedUnread : Refusal → Change → Answer → Type 0
@@ -59,8 +68,8 @@ pub record InputChooses (input : Change) (bytes : List ℕ) (Answers : Protocol 
 
 -- the options and the protocol choose the row of a search
 pub record SearchChooses (options : Options) (p : Protocol) (a : Answer) : Type 0 where
-  pub report : (t : Option Template) → IsSmall p → NamesBy options.breadth t → Searches options p a → Reports options p a
-  pub unbuilt : IsUnbuilt options p → Searches options p a → a ≡ refused Unbuilt
+  pub told : (t : Option Template) → NamesBy options p t → Searches options p a → Reports options p a ⊎ Stops options p a
+  pub faulty : (text : List ℕ) (f : SpaceFault) → options.breadth ≡ Some text → HasSpace p text (Err f) → Searches options p a → a ≡ refused (BreadthFaulty f)
 
 -- the template's text and the protocol choose the row of `space`
 pub record SizeChooses (text : List ℕ) (p : Protocol) (a : Answer) : Type 0 where
@@ -80,8 +89,8 @@ RowsExcludeEachOther =
 abbrev pub OneReport : Type 0
 OneReport = (options : Options) (p : Protocol) (a b : Answer) → Reports options p a → Reports options p b → a ≡ b
 
--- the words and the bytes that the source told fix the answer, but for want of memory and failed
--- reads: of `run`, and of `run_check`
+-- the words and the bytes that the source told fix the answer, but for want of memory, failed reads
+-- and queries that end a search: of `run`, and of `run_check`
 abbrev pub OneAnswer : Type 0
 OneAnswer =
     (command : Option Command) (i j : Change) (bytes : List ℕ) (a b : Answer) → i.before ≡ Some bytes → j.before ≡ Some bytes

@@ -25,6 +25,10 @@ pub enum Refusal {
     NotStratified(Name),
     /// The template of `space` has this fault.
     SpaceFaulty(SpaceFault),
+    /// The template of `--breadth` has this fault.
+    BreadthFaulty(SpaceFault),
+    /// The line of the query that ended a search, or of a report that is too long.
+    Stopped(String),
     Unbuilt,
     ReadFault,
     NoMemory,
@@ -140,6 +144,17 @@ fn tell_space<E: Sink>(alloc: Global, fault: &SpaceFault, err: &mut E) -> u8
     }
 }
 
+// The same of the template of `--breadth`.
+fn tell_breadth<E: Sink>(alloc: Global, fault: &SpaceFault, err: &mut E) -> u8
+    ensures { TellsRefusal (Refusal.BreadthFaulty fault.now)
+        (change (E.held err.old) (E.held err.new) (E.faults err.old) (E.faults err.new)) result }
+{
+    match fault.line(alloc, "breadth") {
+        Ok(line) => write_text(err, line.as_str(), 3),
+        Err(_) => write_text(err, "swiss: out of memory\n", 7),
+    }
+}
+
 // Writes the line of a refusal, and gives the status to end with.
 fn tell_refusal<E: Sink>(alloc: Global, refusal: &Refusal, err: &mut E) -> u8
     ensures { TellsRefusal refusal.now
@@ -155,6 +170,8 @@ fn tell_refusal<E: Sink>(alloc: Global, refusal: &Refusal, err: &mut E) -> u8
         Refusal::Faulty(fault, at) => tell_fault(alloc, *fault, *at, err),
         Refusal::NotStratified(name) => tell_cycle(alloc, name, err),
         Refusal::SpaceFaulty(fault) => tell_space(alloc, fault, err),
+        Refusal::BreadthFaulty(fault) => tell_breadth(alloc, fault, err),
+        Refusal::Stopped(line) => write_text(err, line.as_str(), 4),
         Refusal::Unbuilt => write_text(err, "swiss: Unbuilt\n", 3),
         Refusal::ReadFault => write_text(err, "swiss: read fault\n", 5),
         Refusal::NoMemory => write_text(err, "swiss: out of memory\n", 7),
