@@ -31,12 +31,7 @@ fn push_number(alloc: Global, text: &mut String, number: u32) -> Result<(), Allo
     text.push_str(digits.as_str())
 }
 
-fn push_run(
-    alloc: Global,
-    text: &mut String,
-    sig: &Signature,
-    run: &Run,
-) -> Result<(), AllocError>
+fn push_run(alloc: Global, text: &mut String, sig: &Signature, run: &Run) -> Result<(), AllocError>
     ensures { OnOk result (string_bytes text.new ≡ string_bytes text.old ++ run_text sig.now run.now) }
 {
     text.push_str(quantifier(run.universal))?;
