@@ -1,8 +1,8 @@
 -- First places: in a list with a further name at its end, and in a map that is changed at one name.
-use Rattle.std.proofs.Common.{◌≡◌, ℕ, ◌≤◌, Bool, true, false, cond, List, [], ◌∷◌, ◌++◌, length, Option, Some, None, Vec, BTreeMap, refl, sym, ap, subst, ◌∙◌, ⊎_elim, is_some, eqb, Result, Ok, Err, OnErr, MatchOption, arith, length-append}
+use Rattle.std.proofs.Common.{◌≡◌, ℕ, ◌+◌, ◌≤◌, Bool, true, false, cond, not, ◌||◌, nat_lt, List, [], ◌∷◌, ◌++◌, length, Option, Some, None, Vec, BTreeMap, refl, sym, ap, subst, ◌∙◌, ⊎_elim, is_some, eqb, Result, Ok, Err, OnErr, MatchOption, arith, length-append}
 use Rattle.std.specs.Ordering.{is_eq, nat_cmp}
 use Rattle.std.specs.Cmp.Lexicographic.{slice_cmp}
-use Rattle.std.specs.List.{position, position_or_len}
+use Rattle.std.specs.List.{position, position_or_len, list_any}
 use Rattle.std.specs.Option.{option_eq}
 use Rattle.std.specs.Result.{is_err}
 use Rattle.std.specs.Str.{bytes_eq}
@@ -131,3 +131,22 @@ at_error (Err x) e p = p
 pub popped : {X : Type 0} (xs ys old : List X) (x : X) (r : Option X) → old ≡ xs ++ x ∷ [] → MatchOption r ((old ≡ []) × (ys ≡ [])) (λ last. old ≡ ys ++ last ∷ []) → ys ≡ xs
 popped xs ys old x None e p = absurd (omega (arith, ap length (sym p.0 ∙ e), length-append xs (x ∷ [])))
 popped xs ys old x (Some y) e p = (same_from_push ys xs y x (sym p ∙ e)).0
+
+module _ {X : Type 0} (p : X → Bool) where
+  stands : (b : Bool) (n m : ℕ) (r : Bool) → nat_lt n m ≡ r → nat_lt (cond (not b) (1 + n) 0) (1 + m) ≡ (b || r)
+  stands true n m r e = grind arith
+  stands false n m r e = grind (arith, e)
+
+  -- what has a first place is there
+  pub is_some-position : (xs : List X) → is_some (position p xs) ≡ list_any p xs
+  is_some-position xs = placed (nat_lt (position_or_len p xs) (length xs)) (position_or_len p xs) ∙ within_length xs
+    where
+      placed : (b : Bool) (i : ℕ) → is_some (cond b (Some i) None) ≡ b
+      placed true i = refl
+      placed false i = refl
+
+      within_length : (ys : List X) → nat_lt (position_or_len p ys) (length ys) ≡ list_any p ys
+      within_length [] = refl
+      within_length (y ∷ ys) =
+          let more : length (y ∷ ys) ≡ 1 + length ys = omega arith in
+          ap (λ n. nat_lt (cond (not (p y)) (1 + position_or_len p ys) 0) n) more ∙ stands (p y) (position_or_len p ys) (length ys) (list_any p ys) (within_length ys)

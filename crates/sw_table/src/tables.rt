@@ -1,6 +1,6 @@
 //! Names in the order in which they were added, and the first place of each by look-up.
 ghost use Rattle.std.specs.Prelude.{◌≡◌, [], ◌∷◌, ◌++◌, OnOk, OnErr, MatchOption};
-ghost use Rattle.std.specs.List.{position};
+ghost use Rattle.std.specs.List.{position, list_any};
 ghost use Rattle.std.specs.Str.{bytes_eq};
 
 use crate::places::{put, take};
@@ -43,6 +43,13 @@ impl Table {
         ensures { result ≡ position (bytes_eq name.now) self.now }
     {
         self.places.get(name).copied()
+    }
+
+    /// Whether the name is there.
+    pub fn has(&self, name: &[u8]) -> bool
+        ensures { result ≡ list_any (bytes_eq name.now) self.now }
+    {
+        self.find(name).is_some()
     }
 
     /// Adds the name at the end. After an error the table is as before.
