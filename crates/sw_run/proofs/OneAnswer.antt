@@ -5,11 +5,11 @@ use Rattle.sw_meaning.specs.declared.protocol.Protocol.{Protocol}
 use Rattle.sw_protocol.specs.Stratified.{IsText}
 use Rattle.sw_words.specs.declared.commands.Command.{Command}
 use Rattle.sw_words.specs.declared.commands.Options.{Options}
-use Rattle.sw_run.specs.Ending.{Change, Answer, Faults, Misreads, Reads, Searches, Prints, Allowed, AllowedCheck, refused}
+use Rattle.sw_run.specs.Ending.{Change, Answer, Faults, Misreads, Reads, Searches, Prints, Sizes, Allowed, AllowedCheck, refused}
 use Rattle.sw_run.specs.Laws.{IsLost, LacksMemory, IsRefusedUnread, OneAnswer}
 use Rattle.sw_run.specs.declared.told.Refusal.{Refusal}
 use Rattle.sw_run.specs.declared.told.Refusal.TheVariants.{Usage, TooLong, Unbuilt, ReadFault}
-use Rattle.sw_run.proofs.Causes.{input_told, fits, over_limit, too_long_alone, faulty_alone, spelled_alone, not_unbuilt, words_choose}
+use Rattle.sw_run.proofs.Causes.{input_told, fits, over_limit, too_long_alone, faulty_alone, spelled_alone, not_unbuilt, words_choose, size_chooses}
 use Rattle.sw_run.proofs.OneReport.{one_report}
 
 -- two answers are one, or one of them is lost
@@ -33,6 +33,10 @@ one_search options p a b (Searches.unbuilt cause is) (Searches.unbuilt other sam
 
 one_print : (p : Protocol) (a b : Answer) → Prints p a → Prints p b → a ≡ b
 one_print p a b x y = x ∙ sym y
+
+one_size : (text : List ℕ) (p : Protocol) (a b : Answer) → Sizes text p a → Sizes text p b → a ≡ b
+one_size text p a b (Sizes.sizes t has is) other = is ∙ sym ((size_chooses text p b).sizes t has other)
+one_size text p a b (Sizes.faulty f has is) other = is ∙ sym ((size_chooses text p b).faulty f has other)
 
 module _ (i j : Change) (bytes : List ℕ) (a b : Answer) (here : i.before ≡ Some bytes) (there : j.before ≡ Some bytes) where
   same_answers : (Answers : Protocol → Answer → Type 0) (p : Protocol) → ((x y : Answer) → Answers p x → Answers p y → x ≡ y) → Answers p a → Answers p b ⊎ (b ≡ refused ReadFault) → Agree a b
@@ -59,6 +63,7 @@ module _ (i j : Change) (bytes : List ℕ) (a b : Answer) (here : i.before ≡ S
     one_run (Allowed.usage none u is) other = same_or_lacks j a b Usage is ((words_choose command j b).usage none other)
     one_run (Allowed.unserved c some off u is) other = same_or_lacks j a b Unbuilt is ((words_choose command j b).unserved c some off other)
     one_run (Allowed.synth o some plain reads) other = read_both (Searches o) (one_search o) reads ((words_choose command j b).synth o some plain other)
+    one_run (Allowed.space text some reads) other = read_both (Sizes text) (one_size text) reads ((words_choose command j b).space text some other)
     one_run (Allowed.print some reads) other = read_both Prints one_print reads ((words_choose command j b).print some other)
     one_run (Allowed.no_memory is) other = inl (inl (inl is))
 

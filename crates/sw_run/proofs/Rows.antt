@@ -1,5 +1,5 @@
 -- What errors and answers of parts are told as, by the rows of the table of causes.
-use Rattle.std.specs.Prelude.{◌≡◌, ◌⊎◌, ℕ, ◌++◌, true, false, List, [], Option, Some, IfSome, IfErr, Result, Ok, Err, IsErrAnd, option_map}
+use Rattle.std.specs.Prelude.{◌≡◌, ◌⊎◌, ℕ, ◌++◌, true, false, List, [], length, Option, Some, IfSome, IfErr, Result, Ok, Err, IsErrAnd, option_map}
 use Rattle.std.proofs.Common.{refl, sym, ap, ◌∙◌, subst, inl, inr, append-nil}
 use Rattle.std.proofs.lemmas.Bool.{false≢true}
 use Rattle.sw_meaning.specs.declared.protocol.Protocol.{Protocol}
@@ -18,8 +18,14 @@ use Rattle.sw_words.specs.declared.commands.Command.{Command}
 use Rattle.sw_words.specs.declared.commands.Command.TheVariants.{Synth, Certify, Space, Print, Check, Drill}
 use Rattle.sw_words.specs.declared.commands.Options.{Options}
 use Rattle.sw_run.specs.Words.{IsAsked, NamesBy, is_plain, is_check, is_served}
-use Rattle.sw_run.specs.Ending.{Change, Answer, Faults, Misreads, Reads, Searches, Prints, IsInput, IsSpelled, IsUntouched, Allowed, AllowedCheck, refused, answer_of}
-use Rattle.sw_run.specs.Refusals.{input_refusal}
+use Rattle.sw_run.specs.Ending.{Change, Answer, Faults, Misreads, Reads, Searches, Prints, Sizes, IsInput, IsSpelled, IsUntouched, Allowed, AllowedCheck, refused, answer_of}
+use Rattle.sw_run.specs.Refusals.{input_refusal, space_refusal}
+use Rattle.sw_meaning.specs.Classes.{atoms, classes_of}
+use Rattle.sw_enumerate.specs.Spaces.{Made, IsSpaceOf, classes_in}
+use Rattle.sw_space.specs.declared.faults.NoSpace.{NoSpace}
+use Rattle.sw_space.specs.declared.faults.NoSpace.TheVariants as no_space
+use Rattle.sw_space.specs.Lines.{numbers_text, sizes_of}
+use Rattle.sw_space.specs.Named.{HasSpace, answer_of as space_answer}
 use Rattle.sw_run.specs.declared.report.Report.{Report}
 use Rattle.sw_run.specs.declared.told.Refusal.{Refusal}
 use Rattle.sw_run.specs.declared.told.Refusal.TheVariants.{NotStratified, Unbuilt, NoMemory}
@@ -88,6 +94,25 @@ pub print_row : (input : Change) (a : Answer) → Reads input Prints a ⊎ (a �
 print_row input a (inl reads) = Allowed.print refl reads
 print_row input a (inr lacks) = Allowed.no_memory lacks
 
+pub space_row : (text : List ℕ) (input : Change) (a : Answer) → Reads input (Sizes text) a ⊎ (a ≡ refused NoMemory) → Allowed (Some (Space text)) input a
+space_row text input a (inl reads) = Allowed.space text refl reads
+space_row text input a (inr lacks) = Allowed.no_memory lacks
+
+-- the sizes of a space that was named, and a fault that was told
+pub sizes_told : (p : Protocol) (text told : List ℕ) (s : Made) → IfSome (space_answer (Ok s)) (HasSpace p text) → IsSpaceOf p.signature s.template s
+    → told ≡ numbers_text (length s.atoms) (length s.cubes) (length (classes_in s)) → Sizes text p (record { status = 0; text = told; line = [] })
+sizes_told p text told s has made is =
+    let sizes : told ≡ sizes_of p.signature s.template =
+    is ∙ (ap (λ xs. numbers_text (length xs) (length s.cubes) (length (classes_in s))) made.atoms_are
+    ∙ ap (λ xs. numbers_text (length (atoms p.signature s.template)) (length xs) (length (classes_of s.template.literals xs))) made.cubes_are) in
+    Sizes.sizes s.template has (ap (λ t. record { status = 0; text = t; line = [] }) sizes)
+
+pub fault_told : (p : Protocol) (text : List ℕ) (e : NoSpace) (r : Result Report Refusal) → IsErrAnd r (λ x. x ≡ space_refusal e) → IfSome (space_answer (Err e)) (HasSpace p text)
+    → Sizes text p (answer_of r) ⊎ (r ≡ Err NoMemory)
+fault_told p text e (Ok x) is has = absurd is
+fault_told p text (no_space.Faulty f) (Err x) is has = inl (Sizes.faulty f has (ap refused is))
+fault_told p text no_space.Memory (Err x) is has = inr (ap Err is)
+
 pub printed_text : (p : Protocol) (text : List ℕ) → text ≡ protocol_text p → Prints p (record { status = 0; text = text; line = [] })
 printed_text p text is = ap (λ t. record { status = 0; text = t; line = [] }) is
 
@@ -102,9 +127,11 @@ one_named o asked k served is = let both : IsAsked o.breadth (Served k) = subst 
 pub check_printed : (c : Command) (input : Change) (a : Answer) → c ≡ Print → Allowed (Some Print) input a → AllowedCheck (Some c) input a
 check_printed c input a is allowed = AllowedCheck.check (ap is_check is) (subst (λ d. Allowed (Some d) input a) (sym is) allowed)
 
-pub check_unserved : (c : Command) (input : Change) → ((text : List ℕ) × (c ≡ Space text)) ⊎ (c ≡ Check) → IsUntouched input → AllowedCheck (Some c) input (refused Unbuilt)
-check_unserved c input (inl is) untouched = AllowedCheck.check (ap is_check is.1) (Allowed.unserved c refl (ap is_served is.1) untouched refl)
-check_unserved c input (inr is) untouched = AllowedCheck.check (ap is_check is) (Allowed.unserved c refl (ap is_served is) untouched refl)
+pub check_sized : (c : Command) (text : List ℕ) (input : Change) (a : Answer) → c ≡ Space text → Allowed (Some (Space text)) input a → AllowedCheck (Some c) input a
+check_sized c text input a is allowed = AllowedCheck.check (ap is_check is) (subst (λ d. Allowed (Some d) input a) (sym is) allowed)
+
+pub check_unserved : (c : Command) (input : Change) → c ≡ Check → IsUntouched input → AllowedCheck (Some c) input (refused Unbuilt)
+check_unserved c input is untouched = AllowedCheck.check (ap is_check is) (Allowed.unserved c refl (ap is_served is) untouched refl)
 
 pub check_allowed : (command : Option Command) (c : Command) (input : Change) (a : Answer) → command ≡ Some c → is_check c ≡ true → AllowedCheck (Some c) input a → Allowed command input a
 check_allowed command c input a is on (AllowedCheck.usage off u refused) = absurd (false≢true (sym off ∙ on))

@@ -16,13 +16,16 @@ use Rattle.sw_meaning.specs.Edges.{protocol_edges}
 use Rattle.sw_protocol.specs.Texts.{HasDeclared}
 use Rattle.sw_protocol.specs.Stratified.{IsText}
 use Rattle.sw_words.specs.declared.commands.Command.{Command}
-use Rattle.sw_words.specs.declared.commands.Command.TheVariants.{Synth, Print}
+use Rattle.sw_words.specs.declared.commands.Command.TheVariants.{Synth, Space, Print}
 use Rattle.sw_words.specs.declared.commands.Options.{Options}
 use Rattle.sw_run.specs.Words.{NamesBy, NamesNone, is_plain, is_served, asks_check}
 use Rattle.sw_run.specs.Refusals.{input_refusal, refusal_status, refusal_line}
 use Rattle.sw_run.specs.declared.input.TheConstants.{INPUT_LIMIT}
 use Rattle.sw_run.specs.declared.told.Refusal.{Refusal}
-use Rattle.sw_run.specs.declared.told.Refusal.TheVariants.{Usage, TooLong, NotStratified, Unbuilt, ReadFault, NoMemory}
+use Rattle.sw_run.specs.declared.told.Refusal.TheVariants.{Usage, TooLong, NotStratified, SpaceFaulty, Unbuilt, ReadFault, NoMemory}
+use Rattle.sw_space.specs.declared.faults.SpaceFault.{SpaceFault}
+use Rattle.sw_space.specs.Lines.{sizes_of}
+use Rattle.sw_space.specs.Named.{HasSpace}
 use Rattle.sw_run.specs.declared.report.Report.{Report}
 
 -- a source or a sink before a call and after it: its bytes, where they are told, and its faults
@@ -140,6 +143,14 @@ printed p = record { status = 0; text = protocol_text p; line = [] }
 abbrev pub Prints : Protocol → Answer → Type 0
 Prints p a = a ≡ printed p
 
+abbrev pub sized : Protocol → Template → Answer
+sized p t = record { status = 0; text = sizes_of p.signature t; line = [] }
+
+-- what `space` answers of a protocol: the numbers of atoms, cubes and classes of the template that the text is, or its first fault
+pub data Sizes (text : List ℕ) (p : Protocol) (a : Answer) : Type 0 where
+  sizes : (t : Template) → HasSpace p text (Ok t) → a ≡ sized p t → Sizes text p a
+  faulty : (f : SpaceFault) → HasSpace p text (Err f) → a ≡ refused (SpaceFaulty f) → Sizes text p a
+
 -- ---- the answers to words and input
 
 -- an answer that the words and the input allow, by the row of its cause; want of memory has none.
@@ -148,6 +159,7 @@ pub data Allowed (command : Option Command) (input : Change) (a : Answer) : Type
   usage : command ≡ None → IsUntouched input → a ≡ refused Usage → Allowed command input a
   unserved : (c : Command) → command ≡ Some c → is_served c ≡ false → IsUntouched input → a ≡ refused Unbuilt → Allowed command input a
   synth : (options : Options) → command ≡ Some (Synth options) → is_plain options ≡ true → Reads input (Searches options) a → Allowed command input a
+  space : (text : List ℕ) → command ≡ Some (Space text) → Reads input (Sizes text) a → Allowed command input a
   print : command ≡ Some Print → Reads input Prints a → Allowed command input a
   no_memory : a ≡ refused NoMemory → Allowed command input a
 

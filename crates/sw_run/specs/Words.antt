@@ -17,6 +17,7 @@ is_plain options = options.workers == 1 && is_none options.finish && is_none opt
 -- a command that is served, as far as the words decide it
 abbrev pub is_served : Command → Bool
 is_served (Synth options) = is_plain options
+is_served (Space text) = true
 is_served Print = true
 is_served _ = false
 

@@ -1,7 +1,8 @@
 // The answer to words and an input: a report, or the first refusal in order.
 ghost use Rattle.std.specs.Prelude.{◌≡◌, ◌⊎◌, Some, Err, map, string_bytes};
 ghost use Rattle.sw_words.specs.Grammar.{command_of};
-ghost use Rattle.sw_run.specs.Ending.{Allowed, AllowedCheck, Searches, change, answer_of};
+ghost use Rattle.sw_meaning.specs.WellFormed.{IsWellFormed};
+ghost use Rattle.sw_run.specs.Ending.{Allowed, AllowedCheck, Searches, Sizes, change, answer_of};
 
 use crate::input::read_input;
 use crate::report::{Report, report_on};
@@ -11,7 +12,8 @@ use std::alloc::Global;
 use sw_breadth::is_small;
 use sw_edge::{Gate, Source};
 use sw_protocol::{Protocol, print_protocol};
-use sw_words::{Command, Options, read_words};
+use sw_space::{sizes_text, space_of};
+use sw_words::{Command, Options, Text, read_words};
 
 // The report that a search with these options gives of the protocol, where both are served.
 fn search_protocol<G: Gate>(
@@ -62,6 +64,29 @@ fn print<S: Source>(alloc: Global, source: &mut S) -> Result<Report, Refusal>
     Ok(Report { status: 0, text })
 }
 
+// How large the space is that the text names over the protocol.
+fn size_of(alloc: Global, text: &str, protocol: &Protocol) -> Result<Report, Refusal>
+    requires { IsWellFormed protocol.now }
+    ensures { Sizes text.now protocol.now (answer_of result) ⊎ (result ≡ Err Refusal.NoMemory) }
+{
+    let space = space_of(alloc, text.as_bytes(), protocol)?;
+    let sizes = sizes_text(alloc, &space)?;
+    Ok(Report {
+        status: 0,
+        text: sizes,
+    })
+}
+
+// How large the space is that the text names over the protocol that the input is a text of.
+fn space<S: Source>(alloc: Global, text: &Text, source: &mut S) -> Result<Report, Refusal>
+    ensures { Allowed (Some (Command.Space text.now))
+        (change (S.left source.old) (S.left source.new) (S.faults source.old) (S.faults source.new))
+        (answer_of result) }
+{
+    let protocol = read_input(alloc, source)?;
+    size_of(alloc, text.as_str(), &protocol)
+}
+
 // The answer to a command that needs no workers; others are not meant here.
 fn check<S: Source>(alloc: Global, command: &Command, source: &mut S) -> Result<Report, Refusal>
     ensures { AllowedCheck (Some command.now)
@@ -70,7 +95,8 @@ fn check<S: Source>(alloc: Global, command: &Command, source: &mut S) -> Result<
 {
     match command {
         Command::Print => print(alloc, source),
-        Command::Space(_) | Command::Check => Err(Refusal::Unbuilt),
+        Command::Space(text) => space(alloc, text, source),
+        Command::Check => Err(Refusal::Unbuilt),
         _ => Err(Refusal::Usage),
     }
 }

@@ -40,7 +40,7 @@ pub fn run<H: Threads + Wait + Sync, S: Source, O: Sink, E: Sink, G: Gate + Sync
     tell(alloc, &told, out, err)
 }
 
-/// Runs `space`, `print` and `check`, of which only `print` is served yet, and answers other words
+/// Runs `space`, `print` and `check`, of which `check` is not served yet, and answers other words
 /// with the usage line. It needs no threads and does not wait.
 pub fn run_check<S: Source, O: Sink, E: Sink>(
     alloc: Global,
