@@ -1,29 +1,23 @@
 -- What founded steps that end by Close leave.
-use Rattle.std.specs.Prelude.{◌≡◌, ℕ, ◌≤◌, ◌<◌, List, [], ◌∷◌, ◌++◌, length, take, drop, Some, slice_get, unwrap_or, Contains}
+use Rattle.std.specs.Prelude.{◌≡◌, ℕ, ◌<◌, List, [], ◌++◌, length, take, drop, Some, slice_get, unwrap_or}
 use Rattle.std.specs.List.{AllByRecursion}
-use Rattle.std.proofs.Common.{refl, arith, sym, ap, subst, ◌∙◌}
+use Rattle.std.proofs.Common.{arith, sym, subst, ◌∙◌}
 use Rattle.std.proofs.lemmas.List.{take-append-drop}
 use Rattle.std.proofs.lemmas.Option.{slice_get_within}
 use Rattle.sw_logic.specs.declared.syntax.Formula.{Formula}
 use Rattle.sw_logic.specs.declared.structure.Structure.{Structure}
 use Rattle.sw_logic.specs.Truth.{truth, world}
-use Rattle.sw_meaning.specs.declared.protocol.Protocol.{Protocol}
-use Rattle.sw_meaning.specs.Inductive.{Inductive, Follows, Closed}
-use Rattle.sw_meaning.specs.Verdict.{Joins, Exhausted}
+use Rattle.sw_meaning.specs.Inductive.{Inductive, Follows}
+use Rattle.sw_meaning.specs.Verdict.{Joins}
 use Rattle.sw_meaning.specs.Classes.{classes}
-use Rattle.sw_meaning.specs.Laws.{ClassesCover}
 use Rattle.sw_lists.proofs.Each.{of_contained, each-weaker}
 use Rattle.sw_meaning.proofs.Parts.{classes_of_parts}
 use Rattle.sw_filter.specs.declared.filter.Filter.{Filter}
-use Rattle.sw_filter.specs.declared.filter.Mode.TheVariants.{Breadth, Finish}
+use Rattle.sw_filter.specs.declared.filter.Mode.TheVariants.{Finish}
 use Rattle.sw_filter.specs.Filters.{IsLive}
 use Rattle.sw_filter.specs.Good.{Good}
 use Rattle.sw_filter.proofs.Good.{good_stays, good_is_not_missed, good_does_not_join}
-use Rattle.sw_core.specs.declared.record.Settled.{Settled}
-use Rattle.sw_core.specs.declared.steps.Step.{Step}
-use Rattle.sw_core.specs.declared.steps.End.TheVariants as end
 use Rattle.sw_core.specs.Machine.{Search, Board, Part, IsDone, filters_at, formula_in, parts_in, start, run}
-use Rattle.sw_core.specs.Founded.{AreFounded, IsSettledWell}
 use Rattle.sw_core.specs.Laws.{IsWellSettled, CloseMeansClosed, CloseMeansExhausted}
 use Rattle.sw_core.proofs.Lists.{each_got, got_each, got_within}
 use Rattle.sw_core.proofs.Keeps.{Stands, stands, finisher_keeps_log}

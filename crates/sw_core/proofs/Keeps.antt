@@ -1,5 +1,5 @@
 -- What every founded step keeps.
-use Rattle.std.specs.Prelude.{◌≡◌, ◌≢◌, ℕ, zero, suc, ◌+◌, ◌≤◌, ◌==◌, Bool, true, false, List, [], ◌∷◌, ◌++◌, map, length, take, Option, Some, None, slice_get, slice_index, unwrap_or}
+use Rattle.std.specs.Prelude.{◌≡◌, ◌≢◌, ℕ, zero, suc, ◌+◌, ◌≤◌, List, [], ◌∷◌, ◌++◌, map, length, take, Option, Some, None, slice_get, slice_index, unwrap_or}
 use Rattle.std.specs.List.{AllByRecursion}
 use Rattle.std.proofs.Common.{refl, arith, sym, ap, subst, ◌∙◌, append_assoc, append-nil, length-append, inl, inr}
 use Rattle.std.proofs.lemmas.Bool.{cases_lt}
@@ -19,8 +19,8 @@ use Rattle.sw_core.specs.declared.steps.Step.{Step}
 use Rattle.sw_core.specs.declared.steps.Step.TheVariants.{Begin, Draw, Look, Append, Publish, Settle, Stop, Close}
 use Rattle.sw_core.specs.declared.steps.End.{End}
 use Rattle.sw_core.specs.declared.steps.End.TheVariants.{Running, Stopped, Closed}
-use Rattle.sw_core.specs.Machine.{Search, Board, Part, AreBelow, IsDone, changed, taken, settled_by, filters_at, formula_in, parts_in, start, after, run}
-use Rattle.sw_core.specs.Founded.{IsFounded, AreFounded, IsSettledWell}
+use Rattle.sw_core.specs.Machine.{Search, Board, Part, IsDone, changed, taken, settled_by, filters_at, formula_in, parts_in, start, after, run}
+use Rattle.sw_core.specs.Founded.{IsFounded, AreFounded}
 use Rattle.sw_core.specs.Laws.{Grows, LogStaysEarned, FinisherKeepsLog, IsWellSettled, LastSettlementsAreGood}
 use Rattle.sw_core.proofs.Lists.{length-changed, Was, changed_same, changed_other, index_changed_below, index_replicate, filters_at-append, below-weaker}
 use Rattle.sw_core.proofs.Grow.{grows_after}

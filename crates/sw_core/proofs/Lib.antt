@@ -16,4 +16,4 @@ pub mod Spells
 pub mod Again
 pub mod Sorting
 pub mod Quiet
-pub mod Bodies
+pub mod Narrow

@@ -5,7 +5,6 @@ use Rattle.std.proofs.lemmas.Option.{get_or_from_slice_get}
 use Rattle.sw_logic.specs.declared.syntax.Formula.{Formula}
 use Rattle.sw_core.specs.declared.record.Settled.{Settled}
 use Rattle.sw_core.specs.declared.steps.Step.TheVariants.{Draw, Look, Append, Settle}
-use Rattle.sw_core.specs.declared.part.Made.{Made}
 use Rattle.sw_core.specs.declared.part.Made.TheVariants as made
 use Rattle.sw_core.specs.Machine.{Search, Board, Part, changed, taken, settled_by, after, formula_in}
 use Rattle.sw_core.specs.States.{Machine, HasHolders, HasRoom}
@@ -93,9 +92,7 @@ made_holders u v w e k f p hs at is same =
     subst (λ z. HasHolders z (slice_get z.board.parts k) f) (sym is) kept
 
 -- the formula that was made is that of the body
-pub made_entry : (u v w : Machine) (board : Board) (log_room filter_room : ℕ) → u ≡ v → (f : Formula) (body : Class)
-    → w ≡ record { search = u.search; board = board; log_room = log_room; filter_room = filter_room; made = made.Entry f } → f ≡ formula_in v.search body.cubes → 1 ≤ log_room
-    → length board.log + 1 < 2 ^ 32 → HasRoom w (Append 0 body)
-made_entry u v w board log_room filter_room e f body is same room few =
-    let searched : v.search ≡ u.search = ap (λ (m : Machine). m.search) (sym e) in
-    subst (λ m. HasRoom m (Append 0 body)) (sym is) (ap made.Entry (same ∙ ap (λ m. formula_in m body.cubes) searched), room, few)
+pub made_entry : (w : Machine) (search : Search) (board : Board) (log_room filter_room : ℕ) (f : Formula) (body : Class)
+    → w ≡ record { search = search; board = board; log_room = log_room; filter_room = filter_room; made = made.Entry f } → f ≡ formula_in search body.cubes → 1 ≤ log_room → length board.log + 1 < 2 ^ 32
+    → HasRoom w (Append 0 body)
+made_entry w search board log_room filter_room f body is same room few = subst (λ m. HasRoom m (Append 0 body)) (sym is) (ap made.Entry same, room, few)

@@ -1,7 +1,7 @@
 -- The steps of a round of joined workers, of all rounds, and Close are founded.
-use Rattle.std.specs.Prelude.{◌≡◌, ℕ, zero, suc, ◌+◌, ◌-◌, ◌<◌, ◌≤◌, nat_lt, List, [], ◌∷◌, ◌++◌, map, length, take, drop, replicate, Option, Some, None, slice_get}
+use Rattle.std.specs.Prelude.{◌≡◌, ℕ, zero, suc, ◌+◌, ◌-◌, ◌<◌, ◌≤◌, nat_lt, List, [], ◌∷◌, ◌++◌, map, length, take, drop, replicate, Some, None, slice_get}
 use Rattle.std.specs.List.{AllByRecursion, flat_map}
-use Rattle.std.proofs.Common.{refl, arith, sym, ap, subst, ◌∙◌, append_assoc, append-nil, length-append, inl, inr}
+use Rattle.std.proofs.Common.{refl, arith, sym, ap, subst, ◌∙◌, append_assoc, length-append, inl, inr}
 use Rattle.std.proofs.lemmas.Bool.{cases_lt, cond-true, cond-false, lt-ltb, le-ltb}
 use Rattle.std.proofs.lemmas.List.{length-map}
 use Rattle.std.proofs.lemmas.Option.{none-some, same_Some, slice_get_within}
@@ -9,19 +9,15 @@ use Rattle.std.proofs.Math.Seq.{take-append_seam, drop-append_seam}
 use Rattle.sw_logic.specs.declared.syntax.Formula.{Formula}
 use Rattle.sw_lists.proofs.Each.{each-both, each-weaker, each-any}
 use Rattle.sw_filter.specs.declared.filter.Filter.{Filter}
-use Rattle.sw_filter.specs.Filters.{IsLive}
 use Rattle.sw_core.specs.declared.record.Entry.{Entry}
-use Rattle.sw_core.specs.declared.record.Kept.{Kept}
 use Rattle.sw_core.specs.declared.record.Settled.{Settled}
-use Rattle.sw_core.specs.declared.steps.Step.{Step}
 use Rattle.sw_core.specs.declared.steps.Step.TheVariants.{Begin, Close}
-use Rattle.sw_core.specs.declared.steps.End.TheVariants.{Running}
-use Rattle.sw_core.specs.Machine.{Search, Board, Part, IsDone, filters_at, parts_in, start, after}
+use Rattle.sw_core.specs.Machine.{Search, Board, Part, IsDone, parts_in, start, after}
 use Rattle.sw_core.specs.Records.{times, draws_of, entry_steps, publish_step, settle_steps, round_steps, rounds_steps}
 use Rattle.sw_core.specs.Gathered.{Share, Outcome, filters_of, formulas_of, drawn_of, kept_of, log_after, filters_after, IsShare, IsOutcome, once_below, settled_of, round_of, rounds_of, IsLiveBy, AreOutcomes, GatheredIsFounded}
 use Rattle.sw_core.proofs.Lists.{each_got}
-use Rattle.sw_core.proofs.Leads.{Leads, leads_none, leads_step, leads_append, leads_weaker, At, at_weaker, entries_lead, publishes_lead}
-use Rattle.sw_core.proofs.Drawing.{times_over, times-over, owner, times_in, owner_is, Handed, AreHanded, AtDrawn, draws_lead}
+use Rattle.sw_core.proofs.Leads.{Leads, leads_none, leads_step, leads_append, At, at_weaker, entries_lead, publishes_lead}
+use Rattle.sw_core.proofs.Drawing.{times_over, times-over, owner, times_in, owner_is, AreHanded, AtDrawn, draws_lead}
 use Rattle.sw_core.proofs.Settling.{parts_of, Settles, Waits, AreWaiting, settles_lead}
 use Rattle.sw_core.proofs.Shares.{Fits, Owns, AreShares, shares_settle, shares_publish, settled_parts}
 

@@ -1,23 +1,21 @@
 -- The settlements of the workers' shares, with their places in the list of all filters.
-use Rattle.std.specs.Prelude.{◌≡◌, ℕ, zero, suc, ◌+◌, ◌-◌, ◌<◌, ◌≤◌, ◌==◌, nat_lt, Bool, cond, List, [], ◌∷◌, ◌++◌, map, length, take, Option, Some, slice_get, unwrap_or}
+use Rattle.std.specs.Prelude.{◌≡◌, ℕ, zero, suc, ◌+◌, ◌-◌, ◌<◌, ◌≤◌, nat_lt, cond, List, [], ◌∷◌, ◌++◌, map, length, take, Some, slice_get, unwrap_or}
 use Rattle.std.specs.List.{AllByRecursion, flat_map, cons_option}
-use Rattle.std.proofs.Common.{refl, arith, sym, ap, subst, ◌∙◌, append_assoc, append-nil, length-append, inl, inr}
+use Rattle.std.proofs.Common.{refl, arith, sym, ap, subst, ◌∙◌, append_assoc, length-append, inl, inr}
 use Rattle.std.proofs.lemmas.Bool.{cases_lt, eq-eqb, cond-true, cond-false, lt-ltb, le-ltb}
 use Rattle.std.proofs.lemmas.List.{map-append, length-map, take-append-le}
-use Rattle.std.proofs.lemmas.Option.{none-some, same_Some, slice_get_within}
 use Rattle.sw_logic.specs.declared.syntax.Formula.{Formula}
 use Rattle.sw_lists.proofs.Each.{each-append, each-map, each-weaker, each-both}
 use Rattle.sw_filter.specs.declared.filter.Filter.{Filter}
 use Rattle.sw_filter.specs.Filters.{IsLive}
 use Rattle.sw_filter.specs.Good.{Good}
-use Rattle.sw_core.specs.declared.record.Entry.{Entry}
 use Rattle.sw_core.specs.declared.record.Kept.{Kept}
 use Rattle.sw_core.specs.declared.record.Settled.{Settled}
 use Rattle.sw_core.specs.Machine.{Search, AreBelow, filters_at, formula_in, parts_in}
-use Rattle.sw_core.specs.Founded.{IsSettledWell, Gains}
+use Rattle.sw_core.specs.Founded.{Gains}
 use Rattle.sw_core.specs.Records.{times}
-use Rattle.sw_core.specs.Gathered.{Share, filters_of, formulas_of, drawn_of, kept_of, IsSettledBy, IsKeptBy, IsShare, AreFresh, AreGained, shifted, moved, settled_of, ShareStays, EachGained}
-use Rattle.sw_core.proofs.Lists.{got_append, filters_at-append, below-weaker}
+use Rattle.sw_core.specs.Gathered.{Share, filters_of, formulas_of, kept_of, IsSettledBy, IsKeptBy, IsShare, AreFresh, shifted, moved, settled_of, ShareStays, EachGained}
+use Rattle.sw_core.proofs.Lists.{got_append}
 use Rattle.sw_core.proofs.Leads.{IsPublished}
 use Rattle.sw_core.proofs.Settling.{Settles, parts_of}
 

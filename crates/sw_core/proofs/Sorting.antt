@@ -1,5 +1,5 @@
 -- Two lists of draws in order with the same elements are one, and so the sorted draws are those of the record.
-use Rattle.std.specs.Prelude.{◌≡◌, ◌≢◌, length, take, slice_index_or, nat_lt, ℕ, zero, suc, ◌+◌, ◌<◌, ◌≤◌, ◌==◌, ◌⊎◌, Bool, true, false, cond, List, [], ◌∷◌, ◌++◌, map, replicate, if◌then◌else◌}
+use Rattle.std.specs.Prelude.{◌≡◌, ◌≢◌, length, take, slice_index_or, nat_lt, ℕ, zero, suc, ◌+◌, ◌<◌, ◌≤◌, ◌==◌, Bool, true, false, cond, List, [], ◌∷◌, ◌++◌, map, replicate}
 use Rattle.std.specs.List.{AllByRecursion, flat_map, range_with_len, sum_by}
 use Rattle.std.specs.List.Sorted.{IsSorted, IsPermutation}
 use Rattle.std.specs.declared.cmp.Ordering.{Ordering}
@@ -7,12 +7,11 @@ use Rattle.std.specs.declared.cmp.Ordering.TheVariants.{Less, Equal, Greater}
 use Rattle.std.specs.Ordering.{nat_cmp, ordering_then, is_lt}
 use Rattle.std.proofs.lemmas.List.Sorted.{sum_by-IsPermutation}
 use Rattle.std.proofs.lemmas.List.Sums.{sum_by-cons}
-use Rattle.std.proofs.Common.{refl, arith, sym, ap, subst, ◌∙◌, inl, inr, append_assoc, append-nil, max}
+use Rattle.std.proofs.Common.{refl, arith, sym, ap, subst, ◌∙◌, inl, inr, append_assoc, append-nil}
 use Rattle.std.proofs.lemmas.Bool.{eq-eqb, ne_eqb, cases_lt, cond-true, cond-false, lt-ltb, le-ltb}
 use Rattle.std.proofs.lemmas.List.{map-append}
 use Rattle.sw_logic.specs.Truth.{greatest}
 use Rattle.sw_lists.proofs.Each.{each-append, each-weaker}
-use Rattle.sw_core.specs.declared.steps.Step.{Step}
 use Rattle.sw_core.specs.declared.steps.Step.TheVariants as step
 use Rattle.sw_core.specs.declared.draws.Drawn.{Drawn}
 use Rattle.sw_core.specs.Records.{times, draws_at, draws_of}

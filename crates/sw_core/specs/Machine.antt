@@ -1,5 +1,5 @@
 -- The core machine: its state, when each step may be taken, and what it does.
-use Rattle.std.specs.Prelude.{◌≡◌, ℕ, zero, suc, ◌+◌, ◌<◌, ◌≤◌, Bool, true, not, ◌==◌, IsTrue, List, [], ◌∷◌, ◌++◌, map, length, take, replicate, Option, Some, None, if◌then◌else◌, slice_get, slice_index}
+use Rattle.std.specs.Prelude.{◌≡◌, ℕ, zero, suc, ◌+◌, ◌<◌, ◌≤◌, Bool, true, not, ◌==◌, List, [], ◌∷◌, ◌++◌, map, length, take, replicate, Some, None, if◌then◌else◌, slice_get, slice_index}
 use Rattle.std.specs.List.{AllByRecursion, list_any, filter, filter_map}
 use Rattle.sw_logic.specs.declared.syntax.Formula.{Formula}
 use Rattle.sw_meaning.specs.declared.protocol.Protocol.{Protocol}
@@ -9,8 +9,6 @@ use Rattle.sw_filter.specs.declared.filter.Filter.{Filter}
 use Rattle.sw_filter.specs.declared.filter.Mode.{Mode}
 use Rattle.sw_filter.specs.Filters.{IsLive}
 pub use Rattle.sw_core.specs.declared.part.Part.{Part}
-use Rattle.sw_template.specs.Bodies.{Class}
-use Rattle.sw_core.specs.declared.record.Kept.{Kept}
 use Rattle.sw_core.specs.declared.record.Settled.{Settled}
 use Rattle.sw_core.specs.declared.steps.Step.{Step}
 use Rattle.sw_core.specs.declared.steps.Step.TheVariants.{Begin, Draw, Look, Append, Publish, Settle, Stop, Close}

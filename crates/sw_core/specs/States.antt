@@ -10,7 +10,6 @@ use Rattle.sw_core.specs.declared.steps.Step.TheVariants.{Begin, Draw, Look, App
 use Rattle.sw_meaning.specs.declared.protocol.Protocol.{Protocol}
 use Rattle.sw_meaning.specs.declared.template.Template.{Template}
 use Rattle.sw_filter.specs.declared.filter.Mode.{Mode}
-use Rattle.sw_template.specs.Bodies.{Class}
 use Rattle.sw_core.specs.Machine.{Search, Board, formula_in, taken, settled_by}
 use Rattle.sw_core.specs.declared.part.Part.{Part}
 
@@ -43,21 +42,6 @@ search_of p t mode workers = record { protocol = p; template = t; mode = mode; w
 
 abbrev pub IsOf : Protocol → Template → Mode → ℕ → Search → Type 0
 IsOf p t mode workers m = m ≡ search_of p t mode workers
-
--- each body that has a formula has that of its class
-abbrev pub AreFormulasOf : Search → (Class → Type 0) → (Class → Formula) → Type 0
-AreFormulasOf m Has formula = (body : Class) → Has body → formula body ≡ formula_in m body.cubes
-
--- the body that a step appends has a formula
-abbrev pub HasBody : (Class → Type 0) → Step → Type 0
-HasBody Has Begin = Unit {0}
-HasBody Has (Draw w) = Unit {0}
-HasBody Has (Look w) = Unit {0}
-HasBody Has (Append w body) = Has body
-HasBody Has (Publish w kept) = Unit {0}
-HasBody Has (Settle w settled) = Unit {0}
-HasBody Has (Stop w reason) = Unit {0}
-HasBody Has Close = Unit {0}
 
 -- whether at most 32 variables are in scope in each formula, and in what was made
 abbrev pub are_narrow : List Formula → Bool

@@ -15,6 +15,6 @@ pub mod steps;
 
 pub use part::{Made, Part};
 pub use record::{Entry, Kept, Record, Round, Settled};
-pub use replaying::{replay, steps_of};
+pub use replaying::{is_record, replay, steps_of};
 pub use state::State;
 pub use steps::{End, Step};

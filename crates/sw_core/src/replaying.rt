@@ -1,11 +1,12 @@
 //! The steps that a record stands for, and its replay.
-ghost use Rattle.std.specs.Prelude.{◌≡◌, ◌↔◌, ◌<◌, ◌≤◌, ◌-◌, ◌^◌, ◌++◌, take, drop, map, length, vec_len, IsTrue, IfOk};
-ghost use Rattle.std.specs.List.{AllByRecursion, flat_map};
+ghost use Rattle.std.specs.Prelude.{◌≡◌, ◌↔◌, ◌<◌, ◌≤◌, ◌-◌, ◌^◌, ◌++◌, take, drop, map, length, vec_len, IsTrue, IfOk, ◌+◌};
+ghost use Rattle.std.specs.List.{flat_map};
 ghost use Rattle.sw_filter.specs.Filters.{AreNarrow};
 ghost use Rattle.sw_core.specs.Machine.{start, AreAccepted};
-ghost use Rattle.sw_core.specs.Records.{steps_of, round_steps, draws_of, entry_steps, publish_step, settle_steps, IsRecord};
+ghost use Rattle.sw_core.specs.Records.{steps_of, round_steps, draws_of, entry_steps, publish_step, settle_steps, Rises, IsRecord};
 ghost use Rattle.sw_core.specs.Draws.{pair, draw_step};
-ghost use Rattle.sw_core.specs.States.{search_of, AreFormulasOf, HasBody};
+ghost use Rattle.sw_core.specs.States.{search_of};
+ghost use Rattle.sw_template.specs.Prefix.{variable_count};
 ghost use Rattle.sw_enumerate.specs.Spaces.{IsFor};
 ghost use Rattle.sw_meaning.specs.WellFormed.{IsWellFormed};
 
@@ -17,7 +18,7 @@ use crate::steps::Step;
 use sqlite_items::Items;
 use std::alloc::{AllocError, Global};
 use sw_enumerate::Space;
-use sw_filter::{Candidates, Mode};
+use sw_filter::Mode;
 use sw_logic::Formula;
 use sw_meaning::Protocol;
 
@@ -105,6 +106,27 @@ fn push_round(
     push_settled(alloc, round.settled.as_slice(), steps)
 }
 
+/// Whether the lengths of the log rise through the rounds to that with so many entries after the opening
+/// list.
+fn rises(at: u32, rounds: &[Round], opening: u32, entries: usize) -> bool
+    ensures { IsTrue result ↔ Rises at rounds.now (opening + entries) }
+{
+    let [round, rest @ ..] = rounds else {
+        return at >= opening && (at - opening) as usize == entries;
+    };
+    at <= round.log
+        && round.drawn.len() <= u32::MAX as usize
+        && rises(round.log, rest, opening, entries)
+}
+
+/// Whether the lengths of the log that a record names are those of its entries after an opening list
+/// of so many formulas.
+pub fn is_record(kept: &Record, opening: u32) -> bool
+    ensures { IsTrue result ↔ IsRecord kept.now opening }
+{
+    rises(opening, kept.rounds.as_slice(), opening, kept.entries.len())
+}
+
 /// The steps of a record, from an opening list of so many formulas.
 pub fn steps_of(alloc: Global, kept: &Record, opening: u32) -> Result<Vec<Step>, AllocError>
     requires { IsRecord kept.now opening }
@@ -123,17 +145,11 @@ pub fn steps_of(alloc: Global, kept: &Record, opening: u32) -> Result<Vec<Step>,
 }
 
 /// Takes the steps one after the other; whether all were taken.
-fn take_all<B: Candidates>(
-    state: &mut State,
-    bodies: &B,
-    steps: Vec<Step>,
-) -> Result<bool, AllocError>
-    requires formulas { AreFormulasOf state.old.search (B.has bodies.now) (B.formula_of bodies.now) }
-    requires has { AllByRecursion (HasBody (B.has bodies.now)) steps.items }
+fn take_all(state: &mut State, steps: Vec<Step>) -> Result<bool, AllocError>
     ensures { IfOk result (λ all. IsTrue all ↔ AreAccepted state.old.search state.old.board steps.items) }
 {
     for step in steps {
-        state.reserve(bodies, &step)?;
+        state.reserve(&step)?;
         if !state.step(step) {
             return Ok(false);
         }
@@ -142,11 +158,10 @@ fn take_all<B: Candidates>(
 }
 
 /// Whether the machine takes every step of the record.
-pub fn replay<B: Candidates>(
+pub fn replay(
     alloc: Global,
     protocol: &Protocol,
     space: &Space,
-    bodies: &B,
     workers: u32,
     mode: Mode,
     opening: Vec<Formula>,
@@ -154,8 +169,7 @@ pub fn replay<B: Candidates>(
 ) -> Result<bool, AllocError>
     requires well_formed { IsWellFormed protocol.now }
     requires space { IsFor space.now protocol.now.signature }
-    requires formulas { AreFormulasOf (search_of protocol.now space.now.template mode workers) (B.has bodies.now) (B.formula_of bodies.now) }
-    requires has { AllByRecursion (λ e. B.has bodies.now e.body) kept.now.entries }
+    requires variables { variable_count space.now.template.prefix ≤ 6 }
     requires opening { AreNarrow opening.items }
     requires few { vec_len opening < 2 ^ 32 }
     requires record_ { IsRecord kept.now (vec_len opening) }
@@ -164,5 +178,5 @@ pub fn replay<B: Candidates>(
     let count = opening.len() as u32;
     let steps = steps_of(alloc, kept, count)?;
     let mut state = State::new(alloc, protocol, space, workers, mode, opening)?;
-    take_all(&mut state, bodies, steps)
+    take_all(&mut state, steps)
 }

@@ -7,9 +7,9 @@ use sqlite_items::{Items, at};
 use std::alloc::{AllocError, Global};
 use std::marker::Model;
 use sw_enumerate::Space;
-use sw_filter::{Candidates, Filter, Mode, is_live};
+use sw_filter::{Filter, Mode, is_live};
 use sw_logic::Formula;
-use sw_meaning::{Protocol, Template};
+use sw_meaning::Protocol;
 use sw_template::Body;
 
 /// The most entries of the log, and the most filters: each has a number of 32 bits.
@@ -20,7 +20,7 @@ const ENTRIES: usize = u32::MAX as usize;
 pub struct State<'a> {
     alloc: Global,
     protocol: &'a Protocol,
-    template: &'a Template,
+    space: &'a Space,
     workers: u32,
     mode: Mode,
     log: Vec<Formula>,
@@ -33,19 +33,21 @@ pub struct State<'a> {
 }
 
 impl<'a> Model for State<'a> {
-    ghost use Rattle.std.specs.Prelude.{◌≡◌, ◌-◌, true, length, vec_len, vec_capacity};
+    ghost use Rattle.std.specs.Prelude.{◌≡◌, ◌-◌, ◌≤◌, true, length, vec_len, vec_capacity};
     ghost use Rattle.std.specs.Coded.{codes};
     ghost use Rattle.sw_logic.specs.contracts.syntax.Formula as formula;
     ghost use Rattle.sw_meaning.specs.WellFormed.{IsWellFormed};
+    ghost use Rattle.sw_template.specs.Prefix.{variable_count};
+    ghost use Rattle.sw_enumerate.specs.Spaces.{IsFor};
     ghost use Rattle.sw_core.specs.States.{Machine, are_narrow, is_made_narrow};
 
     ghost Value = { Machine };
 
     ghost coded = { Prim.hlevel (codes, formula.the_row.coded) };
 
-    ghost view = { λ s. record { search = record { protocol = s.protocol.now; template = s.template.now; mode = s.mode; workers = s.workers }; board = record { log = s.log.items; filters = s.filters.items; drawn = s.drawn; parts = s.parts.items; seen = s.seen.items; end = s.end }; log_room = vec_capacity s.log - vec_len s.log; filter_room = vec_capacity s.filters - vec_len s.filters; made = s.made } };
+    ghost view = { λ s. record { search = record { protocol = s.protocol.now; template = s.space.now.template; mode = s.mode; workers = s.workers }; board = record { log = s.log.items; filters = s.filters.items; drawn = s.drawn; parts = s.parts.items; seen = s.seen.items; end = s.end }; log_room = vec_capacity s.log - vec_len s.log; filter_room = vec_capacity s.filters - vec_len s.filters; made = s.made } };
 
-    ghost invariant = { λ s. (length s.seen.items ≡ s.workers) × (are_narrow s.log.items ≡ true) × IsWellFormed s.protocol.now × (is_made_narrow s.made ≡ true) };
+    ghost invariant = { λ s. (length s.seen.items ≡ s.workers) × (are_narrow s.log.items ≡ true) × IsWellFormed s.protocol.now × IsFor s.space.now s.protocol.now.signature × (variable_count s.space.now.template.prefix ≤ 6) × (is_made_narrow s.made ≡ true) };
 }
 
 impl<'a> State<'a> {
@@ -54,8 +56,9 @@ impl<'a> State<'a> {
     ghost use Rattle.sw_filter.specs.Filters.{AreNarrow, IsLive};
     ghost use Rattle.sw_core.specs.Machine.{Accepts, May, IsDone, after, start, taken, settled_by, filters_at};
     ghost use Rattle.sw_meaning.specs.WellFormed.{IsWellFormed};
+    ghost use Rattle.sw_template.specs.Prefix.{variable_count};
     ghost use Rattle.sw_enumerate.specs.Spaces.{IsFor};
-    ghost use Rattle.sw_core.specs.States.{HasRoom, HasHolders, HasBody, AreFormulasOf, IsOf, is_made_narrow};
+    ghost use Rattle.sw_core.specs.States.{HasRoom, HasHolders, IsOf, is_made_narrow};
     ghost use Rattle.sw_core.specs.declared.steps.Step.TheVariants.{Draw, Look, Append, Publish, Settle};
 
     /// The state at the start: the log is the opening list.
@@ -69,6 +72,7 @@ impl<'a> State<'a> {
     ) -> Result<State<'a>, AllocError>
         requires well_formed { IsWellFormed protocol.now }
         requires space { IsFor space.now protocol.now.signature }
+        requires variables { variable_count space.now.template.prefix ≤ 6 }
         requires opening { AreNarrow opening.items }
         ensures search { IfOk result (λ s. IsOf protocol.now space.now.template mode workers s.search) }
         ensures board { IfOk result (λ s. s.board ≡ start s.search opening.items) }
@@ -83,7 +87,7 @@ impl<'a> State<'a> {
         Ok(State {
             alloc,
             protocol,
-            template: space.template(),
+            space,
             workers,
             mode,
             log: opening,
@@ -130,9 +134,7 @@ impl<'a> State<'a> {
     }
 
     /// Makes the formula that an entry leaves the log, and room for it.
-    fn make_entry<B: Candidates>(&mut self, bodies: &B, body: &Body) -> Result<(), AllocError>
-        requires has { B.has bodies.now body.now }
-        requires formulas { AreFormulasOf self.old.search (B.has bodies.now) (B.formula_of bodies.now) }
+    fn make_entry(&mut self, body: &Body) -> Result<(), AllocError>
         ensures search { self.new.search ≡ self.old.search }
         ensures board { self.new.board ≡ self.old.board }
         ensures room { OnOk result (HasRoom self.new (Append 0 body.now)) }
@@ -140,7 +142,7 @@ impl<'a> State<'a> {
         if self.log.len() >= ENTRIES {
             return Err(AllocError);
         }
-        let formula = bodies.formula(self.alloc, body)?;
+        let formula = self.space.formula(body)?;
         self.log.reserve(1)?;
         self.put_made(Made::Entry(formula));
         Ok(())
@@ -159,17 +161,15 @@ impl<'a> State<'a> {
     }
 
     /// Makes room for the step, or answers want of memory where the log or the filters would have
-    /// more than have a number. The formula of an appended body comes from `bodies`.
-    pub fn reserve<B: Candidates>(&mut self, bodies: &B, step: &Step) -> Result<(), AllocError>
-        requires has { HasBody (B.has bodies.now) step.now }
-        requires formulas { AreFormulasOf self.old.search (B.has bodies.now) (B.formula_of bodies.now) }
+    /// more than have a number.
+    pub fn reserve(&mut self, step: &Step) -> Result<(), AllocError>
         ensures search { self.new.search ≡ self.old.search }
         ensures board { self.new.board ≡ self.old.board }
         ensures room { OnOk result (HasRoom self.new step.now) }
     {
         match step {
             Step::Draw(worker) => self.make_taken(*worker),
-            Step::Append(_, body) => self.make_entry(bodies, body),
+            Step::Append(_, body) => self.make_entry(body),
             Step::Publish(_, _) => self.make_filter(),
             Step::Settle(worker, settled) => self.make_settled(*worker, settled),
             Step::Begin | Step::Look(_) | Step::Stop(_, _) | Step::Close => Ok(()),

@@ -1,4 +1,4 @@
-use Rattle.std.proofs.Common.{sym, ap, subst, ◌∙◌, slice_get, slice_index, Some}
+use Rattle.std.proofs.Common.{sym, ap, subst, ◌∙◌, slice_get, slice_index}
 use Rattle.std.specs.Option.{option_copied}
 use Rattle.sw_filter.specs.Filters.{AreNarrow}
 use Rattle.sw_core.proofs.Places.{narrow_of}

@@ -1,4 +1,4 @@
-use Rattle.std.proofs.Common.{sym, subst, take}
+use Rattle.std.proofs.Common.{sym, subst}
 use Rattle.sw_filter.specs.Filters.{AreNarrow}
 use Rattle.sw_core.proofs.Places.{narrow_of, narrow_take}
 use Rattle.sw_core.proofs.state.State.may_publish.Goals as goal
