@@ -1,0 +1,3 @@
+mod LogKeeps
+mod Prefixes
+mod Totals

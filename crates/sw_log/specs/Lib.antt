@@ -1,0 +1,4 @@
+pub mod LogAnswers
+pub mod LogRule
+pub mod LogSteps
+pub mod Seats
