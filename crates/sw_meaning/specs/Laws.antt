@@ -12,7 +12,6 @@ use Rattle.sw_meaning.specs.Inductive.{Earned, Closed, Follows}
 use Rattle.sw_meaning.specs.Classes.{classes, formula_of}
 use Rattle.sw_meaning.specs.Plain.{PlainList, formulas_of}
 use Rattle.sw_meaning.specs.Verdict.{Word, Verdict}
-use Rattle.sw_meaning.specs.Small.{IsSmall, small_template}
 
 -- the words that say that no reachable state is bad
 abbrev pub IsSafe : Word → Type 0
@@ -61,7 +60,3 @@ pub record ClassesCover (p : Protocol) (t : Template) : Type 0 where
 abbrev pub PlainIsEarned : Type 0
 PlainIsEarned = (p : Protocol) (t : Template) (g : List (List ℕ)) → ClassesCover p t → PlainList p t g →
     Earned p (Some t) (formulas_of p t g) × Closed p (Some t) (formulas_of p t g)
-
--- the classes of a small protocol cover its space
-abbrev pub SmallClassesCover : Type 0
-SmallClassesCover = (p : Protocol) (k : ℕ) → IsSmall p → ClassesCover p (small_template k)

@@ -15,8 +15,19 @@ const SWAP_REPORT: &str =
 
 const SORTS: &str = "sort node; mutable relation p(node);";
 
+const TOKEN: &str =
+    "sort node; mutable relation holds(node); immutable constant first: node; init forall N: node. holds(N) <-> N = first; transition pass(a: node, b: node) modifies holds: holds(a) & (forall N: node. holds'(N) <-> N = b); safety forall A: node, B: node. holds(A) & holds(B) -> A = B;";
+
+// Four pigeons, each in one of three holes, and no two in the same.
+const PIGEONS: &str =
+    "mutable relation p11; mutable relation p12; mutable relation p13; mutable relation p21; mutable relation p22; mutable relation p23; mutable relation p31; mutable relation p32; mutable relation p33; mutable relation p41; mutable relation p42; mutable relation p43; init (p11 | p12 | p13) & (p21 | p22 | p23) & (p31 | p32 | p33) & (p41 | p42 | p43) & !(p11 & p21) & !(p11 & p31) & !(p11 & p41) & !(p21 & p31) & !(p21 & p41) & !(p31 & p41) & !(p12 & p22) & !(p12 & p32) & !(p12 & p42) & !(p22 & p32) & !(p22 & p42) & !(p32 & p42) & !(p13 & p23) & !(p13 & p33) & !(p13 & p43) & !(p23 & p33) & !(p23 & p43) & !(p33 & p43); safety false;";
+
+// A relation of three places over forty constants.
+const FORTY: &str =
+    "sort s; immutable constant c0: s; immutable constant c1: s; immutable constant c2: s; immutable constant c3: s; immutable constant c4: s; immutable constant c5: s; immutable constant c6: s; immutable constant c7: s; immutable constant c8: s; immutable constant c9: s; immutable constant c10: s; immutable constant c11: s; immutable constant c12: s; immutable constant c13: s; immutable constant c14: s; immutable constant c15: s; immutable constant c16: s; immutable constant c17: s; immutable constant c18: s; immutable constant c19: s; immutable constant c20: s; immutable constant c21: s; immutable constant c22: s; immutable constant c23: s; immutable constant c24: s; immutable constant c25: s; immutable constant c26: s; immutable constant c27: s; immutable constant c28: s; immutable constant c29: s; immutable constant c30: s; immutable constant c31: s; immutable constant c32: s; immutable constant c33: s; immutable constant c34: s; immutable constant c35: s; immutable constant c36: s; immutable constant c37: s; immutable constant c38: s; immutable constant c39: s; immutable relation r(s, s, s);";
+
 // Command lines, texts, and the status and the report that they have.
-static REPORTS: [(&str, &str, u8, &str); 9] = [
+static REPORTS: [(&str, &str, u8, &str); 17] = [
     ("synth|--breadth|literals 2", SWAP, 0, SWAP_REPORT),
     (
         "synth|--workers=1|--breadth=literals\t\n 2",
@@ -73,6 +84,48 @@ static REPORTS: [(&str, &str, u8, &str); 9] = [
         0,
         "classes 4\ninvariant b\nclosed under single formulas\nverdict safe\n",
     ),
+    // the one token that nodes hand on
+    (
+        "synth|--breadth|forall 2 node literals 3",
+        TOKEN,
+        0,
+        "classes 298\ninvariant forall _1: node, _2: node. !holds(_1) | !holds(_2) | _1 = _2\nclosed under single formulas\nverdict safe\n",
+    ),
+    // a budget that is not spent changes nothing
+    (
+        "synth|--breadth|forall 2 node literals 3|--conflicts|1000000",
+        TOKEN,
+        0,
+        "classes 298\ninvariant forall _1: node, _2: node. !holds(_1) | !holds(_2) | _1 = _2\nclosed under single formulas\nverdict safe\n",
+    ),
+    // what holds of all nodes at the start holds of one, since there is one
+    (
+        "synth|--breadth|exists 1 node literals 1",
+        "sort node; mutable relation p(node); init forall N: node. p(N);",
+        0,
+        "classes 2\ninvariant exists _1: node. p(_1)\nclosed under single formulas\nverdict safe\n",
+    ),
+    // a function from one sort to another, at the variable of the first
+    (
+        "synth|--breadth|forall 1 node exists 1 value literals 1 terms 1",
+        "sort node; sort value; immutable function h(node): value;",
+        0,
+        "classes 2\nclosed under single formulas\nverdict safe\n",
+    ),
+    ("synth", SORTS, 0, "classes 0\nverdict safe\n"),
+    (
+        "synth",
+        "mutable relation a; axiom true;",
+        0,
+        "classes 0\nverdict safe\n",
+    ),
+    ("synth", PIGEONS, 0, "classes 0\nverdict safe\n"),
+    (
+        "synth|--breadth|literals 4",
+        SWAP,
+        0,
+        "classes 15\ninvariant a | b\ninvariant !a | !b\nclosed under single formulas\nverdict safe\n",
+    ),
 ];
 
 // Eight relations that stay as they are, so each literal that is true at the start is an entry.
@@ -83,34 +136,65 @@ const EIGHT: &str =
 const EIGHT_REPORT: &str =
     "classes 696\ninvariant a\ninvariant !b\ninvariant c\ninvariant !d\ninvariant e\ninvariant !f\ninvariant g\ninvariant !h\nclosed under single formulas\nverdict safe\n";
 
-// Command lines and texts that are read and then refused, with the status 3 and this line.
-static REFUSED: [(&str, &str, &str); 9] = [
-    ("synth", SORTS, "swiss: Unbuilt\n"),
-    ("synth", "immutable relation a;", "swiss: Unbuilt\n"),
+// Command lines and texts that are read and then refused, with the status and this line.
+static REFUSED: [(&str, &str, u8, &str); 10] = [
+    // the template's own faults, then a cycle, then the counts
     (
-        "synth",
-        "mutable relation a; axiom true;",
-        "swiss: Unbuilt\n",
+        "synth|--breadth|literals 7",
+        SWAP,
+        3,
+        "swiss: breadth LiteralsOver 7\n",
     ),
     (
-        "synth",
-        "mutable relation a; mutable relation b; mutable relation c; mutable relation d; mutable relation e; mutable relation f; mutable relation g; mutable relation h; mutable relation i;",
-        "swiss: Unbuilt\n",
+        "synth|--breadth|literals2",
+        SWAP,
+        3,
+        "swiss: breadth Syntax at 0\n",
     ),
-    ("synth|--breadth|literals 4", SWAP, "swiss: Unbuilt\n"),
-    ("synth|--breadth|literals2", SWAP, "swiss: Unbuilt\n"),
+    (
+        "synth|--breadth|forall 1 edge literals 1",
+        SORTS,
+        3,
+        "swiss: breadth UnknownSort at 9\n",
+    ),
+    (
+        "synth|--breadth|forall 1 node exists 1 value literals 1",
+        "sort node; sort value; immutable function g(value): node;",
+        3,
+        "swiss: breadth NotStratified node\n",
+    ),
+    (
+        "synth|--breadth|forall 6 node literals 5",
+        "sort node; immutable relation q(node, node, node, node);",
+        3,
+        "swiss: breadth AtomsOver 1311\n",
+    ),
     // the faults of the text come first
-    ("synth", "sort n; sort n;", "swiss: Twice at 13\n"),
-    ("synth|--breadth|literals 4", "a $", "swiss: BadByte at 2\n"),
+    ("synth", "sort n; sort n;", 3, "swiss: Twice at 13\n"),
+    ("synth|--breadth|literals 7", "a $", 3, "swiss: BadByte at 2\n"),
     (
-        "synth|--breadth|literals 4",
+        "synth|--breadth|literals 7",
         "sort n; init q;",
+        3,
         "swiss: Unknown at 13\n",
+    ),
+    // queries that end a search
+    (
+        "synth|--conflicts|1",
+        PIGEONS,
+        4,
+        "swiss: Spent on safety at start: 1\n",
+    ),
+    (
+        "synth",
+        FORTY,
+        4,
+        "swiss: TooLarge on safety at start: terms 40, instances 7745641\n",
     ),
 ];
 
 // Command lines whose answer comes before the source is read: the status and the line.
-static UNREAD: [(&str, u8, &str); 15] = [
+static UNREAD: [(&str, u8, &str); 14] = [
     ("", 2, USAGE),
     ("synth|--workers|0", 2, USAGE),
     ("synth|--finish", 2, USAGE),
@@ -122,7 +206,6 @@ static UNREAD: [(&str, u8, &str); 15] = [
     ("check", 3, "swiss: Unbuilt\n"),
     ("drill|6", 3, "swiss: Unbuilt\n"),
     ("synth|--finish|literals 1", 3, "swiss: Unbuilt\n"),
-    ("synth|--conflicts|1", 3, "swiss: Unbuilt\n"),
     ("synth|--workers|2", 3, "swiss: Unbuilt\n"),
     // and two that do read
     ("space|literals 2", 5, "swiss: read fault\n"),
@@ -155,11 +238,11 @@ fn reports<R: Threads + Wait + Sync + Abort>(
 fn refuses<R: Threads + Wait + Sync + Abort>(
     rt: &R,
     alloc: Global,
-    row: (&str, &str, &str),
+    row: (&str, &str, u8, &str),
 ) -> Result<(), AllocError> {
-    let (line, text, refusal) = row;
+    let (line, text, status, refusal) = row;
     let ended = run_on(rt, alloc, line, text.as_bytes(), &[], &[], &OpenGate)?;
-    is_ended(rt, &ended, 3, "", refusal);
+    is_ended(rt, &ended, status, "", refusal);
     Ok(())
 }
 

@@ -1,4 +1,0 @@
-use Rattle.sw_breadth.proofs.states.+patterns.Given as goal
-
-abbrev pub decreases-patterns : goal.decreases-patterns
-decreases-patterns l = l.count
