@@ -6,6 +6,7 @@ use Rattle.sw_logic.specs.declared.syntax.Formula.{Formula}
 use Rattle.sw_logic.specs.declared.syntax.Signature.{Signature}
 use Rattle.sw_meaning.specs.declared.template.Template.{Template}
 use Rattle.sw_meaning.specs.Classes.{atoms, cubes, classes_of, parts_of, formula_by}
+use Rattle.sw_template.specs.Prefix.{variable_count}
 use Rattle.sw_enumerate.specs.Walk.{AreSmall, part_at}
 
 -- a template, its atoms and its cubes
@@ -39,10 +40,11 @@ pub record IsWithin (s : Made) : Type 0 where
   pub cubes : length s.cubes ≤ 1048576
   pub classes : length (classes_in s) ≤ 2 ^ 32
 
--- one to six literals, and cubes of as many
+-- one to six literals, cubes of as many, and at most six variables
 pub record IsSmall (s : Made) : Type 0 where
   pub some : 0 < s.template.literals
   pub most : s.template.literals ≤ 6
+  pub variables : variable_count s.template.prefix ≤ 6
   pub cubes : AreSmall s.cubes
 
 -- what the one template of a space was made of

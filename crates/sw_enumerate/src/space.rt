@@ -3,18 +3,18 @@ ghost use Rattle.std.specs.Prelude.{IsTrue, ◌↔◌, ◌≡◌, ℕ, ◌+◌, 
 ghost use Rattle.sw_logic.specs.Signatures.{is_signature};
 ghost use Rattle.sw_meaning.specs.Classes.{part_of};
 ghost use Rattle.sw_enumerate.specs.Refusals.{RefusesSpace, of_cubes};
-ghost use Rattle.sw_enumerate.specs.Spaces.{IsSpaceOf, IsWithin, Made, classes_in, parts_in, part_in};
+ghost use Rattle.sw_enumerate.specs.Spaces.{IsSpaceOf, IsWithin, Made, classes_in, parts_in, part_in, formula_in};
 ghost use Rattle.sw_template.specs.Prefix.{variable_count};
 
 use crate::errors::{CLASSES, SpaceError};
 use crate::picked::Picked;
 use crate::tally::count_classes;
 use crate::walk::Walk;
-use std::alloc::Global;
+use std::alloc::{AllocError, Global};
 use std::marker::Model;
-use sw_logic::Signature;
+use sw_logic::{Formula, Signature};
 use sw_meaning::Template;
-use sw_template::{Body, Cubes, CubesError, Literals, LiteralsError};
+use sw_template::{Body, Cubes, CubesError, Literals, LiteralsError, formula_of};
 
 /// The most sorts or symbols that are numbered.
 const NUMBERS: usize = u32::MAX as usize;
@@ -137,6 +137,19 @@ impl Space {
         self.walk.count()
     }
 
+    /// The formula of a class. In another body a number that is no cube stands for an empty one.
+    pub fn formula(&self, body: &Body) -> Result<Formula, AllocError>
+        ensures { IfOk result (λ f. f ≡ formula_in self.now body.now.cubes) }
+    {
+        formula_of(
+            self.alloc,
+            &self.template,
+            &self.literals,
+            self.walk.cubes(),
+            body,
+        )
+    }
+
     /// The number of parts.
     pub fn parts(&self) -> u64
         ensures { result ≡ length (parts_in self.now) }
@@ -148,6 +161,7 @@ impl Space {
     pub fn first_of(&self, part: u64) -> Option<Body>
         requires { part < length (parts_in self.now) }
         ensures cubes { option_map (λ b. b.cubes) result ≡ slice_get (part_in self.now part) 0 }
+        ensures among { IfSome result (λ b. Contains (part_in self.now part) b.cubes) }
         ensures template { IfSome result (λ b. b.template ≡ 0) }
     {
         let literals = self.literals_of(part);
@@ -163,6 +177,7 @@ impl Space {
         requires part { part < length (parts_in self.now) }
         requires is { Contains (part_in self.now part) body.now.cubes }
         ensures cubes { (i : ℕ) → slice_get (part_in self.now part) i ≡ Some body.now.cubes → option_map (λ b. b.cubes) result ≡ slice_get (part_in self.now part) (i + 1) }
+        ensures among { IfSome result (λ b. Contains (part_in self.now part) b.cubes) }
         ensures template { IfSome result (λ b. b.template ≡ 0) }
     {
         let literals = self.literals_of(part);

@@ -3,16 +3,13 @@ use Rattle.std.proofs.Common.{◌≡◌, List, [], ◌∷◌, ◌++◌, length, 
 use Rattle.std.specs.Prelude.{Result, Ok, Err, IfOk}
 use Rattle.std.proofs.lemmas.List.{take_more, map-append, at_drop_more}
 use Rattle.sw_trees.specs.declared.words.Word.{Word}
-use Rattle.sw_text.specs.Names.{Around}
-use Rattle.sw_text.specs.declared.names.Place.{Place}
+use Rattle.sw_text.specs.Names.{Around, bytes_at}
 use Rattle.sw_text.specs.declared.names.Violation.{Violation}
 use Rattle.sw_text.specs.declared.resolve.Resolved.{Resolved}
 use Rattle.sw_text.specs.Resolving.{Finds}
-use Rattle.sw_meaning.specs.declared.protocol.Protocol.{Protocol}
-use Rattle.sw_protocol.specs.declared.tree.Declaration.{Declaration}
 use Rattle.sw_protocol.specs.declared.draft.Draft.{Draft}
-use Rattle.sw_protocol.specs.Declaring.{after, declaration_faults, declared, all_faults, all_declared, sort_faults, sorts_faults, sort_of, sorts_of, one_modified_faults, modified_faults, symbol_of, symbols_of}
-use Rattle.sw_protocol.specs.Drafts.{reading, Knows, FindsKept}
+use Rattle.sw_protocol.specs.Declaring.{sort_faults, sorts_faults, sort_of, sorts_of, one_modified_faults, modified_faults, symbol_of, symbols_of}
+use Rattle.sw_protocol.specs.Drafts.{FindsKept}
 
 module _ (a : Around) where
   pub sorts_faults_more : (ws : List Word) (i : ℕ) (d : Word) → i < length ws → sorts_faults a (drop i ws) ≡ sort_faults a (get_or ws i d) ++ sorts_faults a (drop (i + 1) ws)
@@ -29,6 +26,9 @@ module _ (a : Around) where
 
   pub symbols_more : (ws : List Word) (i : ℕ) (d : Word) → i < length ws → symbols_of a (take (i + 1) ws) ≡ symbols_of a (take i ws) ++ symbol_of a (get_or ws i d) ∷ []
   symbols_more ws i d h = ap (symbols_of a) (take_more ws i d h) ∙ map-append (symbol_of a) (take i ws) (get_or ws i d ∷ [])
+
+pub names_more : (text : List ℕ) (ws : List Word) (i : ℕ) (d : Word) → i < length ws → map (bytes_at text) (take (i + 1) ws) ≡ map (bytes_at text) (take i ws) ++ bytes_at text (get_or ws i d) ∷ []
+names_more text ws i d h = ap (map (bytes_at text)) (take_more ws i d h) ∙ map-append (bytes_at text) (take i ws) (get_or ws i d ∷ [])
 
 -- what is found without a change of the draft
 pub finds_kept : {X : Type 0} (all : List Violation) (x : X) (d : Draft) (r : Resolved X) → Finds all x r → FindsKept all x d d r

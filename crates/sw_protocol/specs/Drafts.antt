@@ -4,12 +4,17 @@ use Rattle.sw_text.specs.declared.names.Place.{Place}
 use Rattle.sw_text.specs.declared.names.Violation.{Violation}
 use Rattle.sw_text.specs.declared.resolve.Resolved.{Resolved}
 use Rattle.sw_text.specs.Names.{Around}
+use Rattle.sw_text.specs.Tables.{AreOf}
 use Rattle.sw_protocol.specs.declared.draft.Draft.{Draft}
 use Rattle.sw_protocol.specs.Declaring.{transition_names}
 
 -- the names of the transitions are kept beside the protocol
 abbrev pub Knows : Draft → Type 0
 Knows d = d.transitions ≡ transition_names d.protocol.transitions
+
+-- the tables are those of what is declared so far
+abbrev pub HasTables : Draft → Type 0
+HasTables d = AreOf d.tables d.protocol.signature
 
 -- what names are read by after what is declared so far
 abbrev pub reading : List ℕ → Draft → Place → Around

@@ -1,11 +1,11 @@
 //! Names of declarations: each is looked up among what is declared before it, in text order, and the
 //! first rule that one breaks is told.
-ghost use Rattle.std.specs.Prelude.{◌≡◌, [], ◌++◌, IfOk};
+ghost use Rattle.std.specs.Prelude.{◌≡◌, [], ◌++◌, map, IfOk};
 ghost use Rattle.sw_text.specs.declared.names.Place.TheVariants as place;
 ghost use Rattle.sw_text.specs.Names.{number_or_0, bytes_at, faults, formula_read};
 ghost use Rattle.sw_text.specs.Resolving.{around, first_rule, Finds};
 ghost use Rattle.sw_protocol.specs.Declaring.{name_faults, sort_faults, sorts_faults, sort_of, sorts_of, one_modified_faults, modified_faults, symbol_of, symbols_of, is_among, fixed_at, modified_tests, place_of, standing, relation_of, constant_of, function_of, named_faults, named_transition, with_own_name, declaration_faults, item_of, all_faults, all_declared, empty_protocol};
-ghost use Rattle.sw_protocol.specs.Drafts.{reading, IsFirst, FindsKept};
+ghost use Rattle.sw_protocol.specs.Drafts.{HasTables, reading, IsFirst, FindsKept};
 ghost use Rattle.sw_protocol.specs.declared.draft.Item.TheVariants as item;
 
 use crate::draft::{Draft, Item};
@@ -14,6 +14,7 @@ use sqlite_items::Items;
 use std::alloc::{AllocError, Global};
 use sw_logic::{Symbol, SymbolKind};
 use sw_meaning::{Protocol, Transition};
+use sw_table::Table;
 use sw_text::{Names, Place, Resolved, Rule, Violation, name_of};
 use sw_trees::{Tree, Word, bytes_of};
 
@@ -62,11 +63,12 @@ fn sorts_of(
     Ok(Resolved::Found(sorts))
 }
 
-/// Whether one of the words is this name.
-fn is_among(text: &[u8], words: &[Word], name: &[u8]) -> bool
+/// Whether one of the words, whose names the table has, is this name.
+fn is_among(text: &[u8], words: &[Word], table: &Table, name: &[u8]) -> bool
+    requires { table.now ≡ map (bytes_at text.now) words.now }
     ensures { result ≡ is_among text.now words.now name.now }
 {
-    words.iter().any(|word| name == bytes_of(text, &word.token))
+    table.has(name)
 }
 
 /// Whether the symbol of this number may not change.
@@ -79,17 +81,19 @@ fn is_fixed(names: &Names<'_>, symbol: u32) -> bool
     }
 }
 
-/// The first rule that a name breaks which stands after `modifies` behind these words, and is that
-/// of this symbol, if of any.
+/// The first rule that a name breaks which stands after `modifies` behind these words, whose names
+/// the table has, and is that of this symbol, if of any.
 fn modified_rule(
     names: &Names<'_>,
     before: &[Word],
+    table: &Table,
     name: &[u8],
     symbol: Option<u32>,
 ) -> Option<Rule>
+    requires { table.now ≡ map (bytes_at names.now.text.now) before.now }
     ensures { result ≡ first_rule (modified_tests (around names.now) before.now name.now symbol) }
 {
-    if is_among(names.text, before, name) {
+    if is_among(names.text, before, table, name) {
         return Some(Rule::Twice);
     }
     match symbol {
@@ -114,17 +118,19 @@ fn number_or_0(number: Option<u32>) -> u32
     }
 }
 
-/// The symbol of a name that stands after `modifies` behind these words.
+/// The symbol of a name that stands after `modifies` behind these words, whose names the table has.
 fn modified_one(
     names: &Names<'_>,
     before: &[Word],
+    table: &Table,
     word: &Word,
 ) -> Result<Resolved<u32>, AllocError>
+    requires { table.now ≡ map (bytes_at names.now.text.now) before.now }
     ensures { IfOk result (Finds (one_modified_faults (around names.now) before.now word.now) (symbol_of (around names.now) word.now)) }
 {
     let name = bytes_of(names.text, &word.token);
     let symbol = names.symbol_number(name)?;
-    match modified_rule(names, before, name, symbol) {
+    match modified_rule(names, before, table, name, symbol) {
         Some(rule) => Ok(Resolved::Broken(Violation {
             rule,
             at: word.token.at,
@@ -142,11 +148,14 @@ fn modified(
     ensures { IfOk result (Finds (modified_faults (around names.now) [] words.now) (symbols_of (around names.now) words.now)) }
 {
     let mut symbols = Items::new(alloc);
+    let mut table = Table::new(alloc);
     for (i, word) in words.iter().enumerate() {
-        match modified_one(names, &words[..i], word)? {
+        match modified_one(names, &words[..i], &table, word)? {
             Resolved::Found(symbol) => symbols.push(symbol)?,
             Resolved::Broken(violation) => return Ok(Resolved::Broken(violation)),
         }
+        let name = name_of(alloc, bytes_of(names.text, &word.token))?;
+        table.push(alloc, name)?;
     }
     Ok(Resolved::Found(symbols))
 }
@@ -263,6 +272,7 @@ impl Draft {
         kind: Statement,
         tree: &Tree,
     ) -> Result<Resolved<Item>, AllocError>
+        requires { HasTables self.now }
         ensures { let a = standing (place_of kind) (reading text.now self.now place.OneState) in IfOk result (Finds (faults a tree.now []) (item.Formula kind (formula_read a tree.now []))) }
     {
         let place = place_of(kind);
@@ -281,6 +291,7 @@ impl Draft {
         heading: &Heading,
         tree: &Tree,
     ) -> Result<Resolved<Item>, AllocError>
+        requires { HasTables self.now }
         ensures { let a = reading text.now self.now place.OneState in IfOk result (Finds (named_faults a heading.now tree.now) (item.Transition (named_transition a heading.now tree.now))) }
     {
         let place = Place::OneState;
@@ -316,6 +327,7 @@ impl Draft {
         heading: &Heading,
         tree: &Tree,
     ) -> Result<Resolved<Item>, AllocError>
+        requires { HasTables self.old }
         ensures { let a = reading text.now self.old place.OneState in IfOk result (FindsKept (name_faults a heading.now.name ++ named_faults (with_own_name a heading.now) heading.now tree.now) (item.Transition (named_transition (with_own_name a heading.now) heading.now tree.now)) self.old self.new) }
     {
         let name = heading.name;
@@ -324,7 +336,7 @@ impl Draft {
             return Ok(Resolved::Broken(violation));
         }
         let own = name_of(alloc, bytes_of(text, &name.token))?;
-        self.transitions.push(own)?;
+        self.transitions.push(alloc, own)?;
         let found = self.named_transition(alloc, text, heading, tree)?;
         self.transitions.pop();
         Ok(found)
@@ -337,6 +349,7 @@ impl Draft {
         text: &[u8],
         declaration: &Declaration,
     ) -> Result<Resolved<Item>, AllocError>
+        requires { HasTables self.old }
         ensures { let a = reading text.now self.old place.OneState in IfOk result (FindsKept (declaration_faults a declaration.now) (item_of a declaration.now) self.old self.new) }
     {
         let place = Place::OneState;

@@ -3,14 +3,15 @@ ghost use Rattle.std.specs.Prelude.{◌≡◌, OnOk};
 ghost use Rattle.sw_protocol.specs.declared.tree.Statement.TheVariants as statement;
 ghost use Rattle.sw_text.specs.Resolving.{around};
 ghost use Rattle.sw_protocol.specs.Declaring.{empty_protocol, with_sort, with_symbol, with_statement, with_transition, with_item};
-ghost use Rattle.sw_protocol.specs.Drafts.{Knows, reading};
+ghost use Rattle.sw_protocol.specs.Drafts.{Knows, HasTables, reading};
 
 use crate::tree::Statement;
 use sqlite_items::Items;
 use std::alloc::{AllocError, Global};
 use sw_logic::{Formula, Name, Signature, Symbol, copy_name};
 use sw_meaning::{Decl, Protocol, Transition};
-use sw_text::{Names, Place, number_of};
+use sw_table::Table;
+use sw_text::{Names, Place, Tables, number_of};
 
 /// What one declaration adds.
 #[derive(Drop)]
@@ -21,11 +22,12 @@ pub enum Item {
     Transition(Transition),
 }
 
-/// What is declared so far, and once more the names of the transitions.
+/// What is declared so far, and once more the names by which it is looked up.
 #[derive(Drop)]
 pub struct Draft {
     pub protocol: Protocol,
-    pub transitions: Items<Name>,
+    pub tables: Tables,
+    pub transitions: Table,
 }
 
 fn add_sort(protocol: &mut Protocol, name: Name) -> Result<(), AllocError>
@@ -90,6 +92,7 @@ impl Draft {
     pub fn new(alloc: Global) -> Draft
         ensures protocol { result.protocol ≡ empty_protocol }
         ensures knows { Knows result }
+        ensures tables { HasTables result }
     {
         Draft {
             protocol: Protocol {
@@ -103,34 +106,50 @@ impl Draft {
                 safeties: Items::new(alloc),
                 order: Items::new(alloc),
             },
-            transitions: Items::new(alloc),
+            tables: Tables {
+                sorts: Table::new(alloc),
+                symbols: Table::new(alloc),
+            },
+            transitions: Table::new(alloc),
         }
     }
 
     /// By what the names of a text are read that stand behind what is declared so far.
     pub fn names<'a>(&'a self, text: &'a [u8], place: &'a Place) -> Names<'a>
+        requires { HasTables self.now }
         ensures { around result ≡ reading text.now self.now place.now }
     {
         Names {
             text,
             signature: &self.protocol.signature,
-            declared_too: self.transitions.as_slice(),
+            tables: &self.tables,
+            declared_too: &self.transitions,
             place,
         }
     }
 
     /// Declares one thing more.
     pub fn add(&mut self, alloc: Global, item: Item) -> Result<(), AllocError>
-        requires { Knows self.old }
+        requires knows { Knows self.old }
+        requires tables { HasTables self.old }
         ensures protocol { OnOk result (self.new.protocol ≡ with_item self.old.protocol item) }
         ensures knows { OnOk result (Knows self.new) }
+        ensures tables { OnOk result (HasTables self.new) }
     {
         match item {
-            Item::Sort(name) => add_sort(&mut self.protocol, name),
-            Item::Symbol(symbol) => add_symbol(&mut self.protocol, symbol),
+            Item::Sort(name) => {
+                self.tables.sorts.push(alloc, copy_name(alloc, &name)?)?;
+                add_sort(&mut self.protocol, name)
+            }
+            Item::Symbol(symbol) => {
+                let name = copy_name(alloc, &symbol.name)?;
+                self.tables.symbols.push(alloc, name)?;
+                add_symbol(&mut self.protocol, symbol)
+            }
             Item::Formula(kind, formula) => add_formula(&mut self.protocol, kind, formula),
             Item::Transition(transition) => {
-                self.transitions.push(copy_name(alloc, &transition.name)?)?;
+                let name = copy_name(alloc, &transition.name)?;
+                self.transitions.push(alloc, name)?;
                 add_transition(&mut self.protocol, transition)
             }
         }

@@ -7,16 +7,19 @@ use Rattle.sw_edge.specs.Edge.{Took}
 use Rattle.sw_meaning.specs.declared.protocol.Protocol.{Protocol}
 use Rattle.sw_protocol.specs.Stratified.{IsText}
 use Rattle.sw_words.specs.declared.commands.Command.{Command}
-use Rattle.sw_words.specs.declared.commands.Command.TheVariants.{Synth, Print}
+use Rattle.sw_words.specs.declared.commands.Command.TheVariants.{Synth, Space, Print}
 use Rattle.sw_words.specs.declared.commands.Options.{Options}
 use Rattle.sw_meaning.specs.declared.template.Template.{Template}
-use Rattle.sw_meaning.specs.Small.{IsSmall}
-use Rattle.sw_run.specs.Words.{NamesBy, is_plain, is_served, asks_check}
-use Rattle.sw_run.specs.Ending.{Change, Answer, Faults, Misreads, Reads, Searches, Reports, Prints, IsInput, IsUnbuilt, IsTooLong, Allowed, AllowedCheck, refused}
-use Rattle.sw_run.specs.Laws.{Tells, LacksMemory, IsRefusedUnread, WordsChoose, InputChooses, SearchChooses, RowsExcludeEachOther}
+use Rattle.sw_run.specs.Words.{is_plain, is_served, asks_check}
+use Rattle.sw_run.specs.Ending.{Change, Answer, Faults, Misreads, Reads, Searches, Reports, Stops, NamesBy, Prints, Sizes, IsInput, IsTooLong, Allowed, AllowedCheck, refused, sized}
+use Rattle.sw_run.specs.Laws.{Tells, LacksMemory, IsRefusedUnread, WordsChoose, InputChooses, SearchChooses, SizeChooses, RowsExcludeEachOther}
 use Rattle.sw_run.specs.declared.input.TheConstants.{INPUT_LIMIT}
 use Rattle.sw_run.specs.declared.told.Refusal.{Refusal}
-use Rattle.sw_run.specs.declared.told.Refusal.TheVariants.{Usage, TooLong, Unbuilt, ReadFault}
+use Rattle.sw_run.specs.declared.told.Refusal.TheVariants.{Usage, TooLong, SpaceFaulty, BreadthFaulty, Unbuilt, ReadFault}
+use Rattle.sw_space.specs.declared.faults.SpaceFault.{SpaceFault}
+use Rattle.sw_space.specs.Named.{HasSpace}
+use Rattle.sw_space.proofs.OneSpace.{one_space}
+use Rattle.sw_run.proofs.Naming.{same_named, same_fault, unfaulty, named_not_faulty, one_breadth_fault}
 use Rattle.sw_run.proofs.Inputs.{one_fault, not_both, one_text}
 
 -- ---- words
@@ -26,6 +29,9 @@ same_command command c d e f = same_Some c d (sym e ∙ f)
 
 pub same_options : (o p : Options) → Synth o ≡ Synth p → o ≡ p
 same_options o p is = cc
+
+pub same_text : (t u : List ℕ) → Space t ≡ Space u → t ≡ u
+same_text t u is = cc
 
 no_command : (command : Option Command) (c : Command) → command ≡ None → command ≡ Some c → ⊥
 no_command command c none some = let bad : None ≡ Some c = sym none ∙ some in absurd cc
@@ -38,6 +44,7 @@ module _ (command : Option Command) (input : Change) (a : Answer) where
   usage_alone none (Allowed.usage n u is) = inl (is, u)
   usage_alone none (Allowed.unserved c some off u is) = absurd (no_command command c none some)
   usage_alone none (Allowed.synth o some plain reads) = absurd (no_command command (Synth o) none some)
+  usage_alone none (Allowed.space text some reads) = absurd (no_command command (Space text) none some)
   usage_alone none (Allowed.print some reads) = absurd (no_command command Print none some)
   usage_alone none (Allowed.no_memory is) = inr is
 
@@ -45,6 +52,7 @@ module _ (command : Option Command) (input : Change) (a : Answer) where
   unserved_alone c some off (Allowed.usage none u is) = absurd (no_command command c none some)
   unserved_alone c some off (Allowed.unserved d e f u is) = inl (is, u)
   unserved_alone c some off (Allowed.synth o e plain reads) = absurd (other_served command c (Synth o) some e off plain)
+  unserved_alone c some off (Allowed.space text e reads) = absurd (other_served command c (Space text) some e off refl)
   unserved_alone c some off (Allowed.print e reads) = absurd (other_served command c Print some e off refl)
   unserved_alone c some off (Allowed.no_memory is) = inr is
 
@@ -53,13 +61,24 @@ module _ (command : Option Command) (input : Change) (a : Answer) where
   synth_alone o some on (Allowed.unserved c e off u is) = absurd (other_served command c (Synth o) e some off on)
   synth_alone o some on (Allowed.synth p e plain reads) =
       let same : p ≡ o = same_options p o (same_command command (Synth p) (Synth o) e some) in inl (subst (λ q. Reads input (Searches q) a) same reads)
+  synth_alone o some on (Allowed.space text e reads) = let bad : Space text ≡ Synth o = same_command command (Space text) (Synth o) e some in absurd cc
   synth_alone o some on (Allowed.print e reads) = let bad : Print ≡ Synth o = same_command command Print (Synth o) e some in absurd cc
   synth_alone o some on (Allowed.no_memory is) = inr is
+
+  space_alone : (text : List ℕ) → command ≡ Some (Space text) → Allowed command input a → Reads input (Sizes text) a ⊎ LacksMemory a
+  space_alone text some (Allowed.usage none u is) = absurd (no_command command (Space text) none some)
+  space_alone text some (Allowed.unserved c e off u is) = absurd (other_served command c (Space text) e some off refl)
+  space_alone text some (Allowed.synth o e plain reads) = let bad : Space text ≡ Synth o = same_command command (Space text) (Synth o) some e in absurd cc
+  space_alone text some (Allowed.space other e reads) =
+      let same : other ≡ text = same_text other text (same_command command (Space other) (Space text) e some) in inl (subst (λ t. Reads input (Sizes t) a) same reads)
+  space_alone text some (Allowed.print e reads) = let bad : Space text ≡ Print = same_command command (Space text) Print some e in absurd cc
+  space_alone text some (Allowed.no_memory is) = inr is
 
   print_alone : command ≡ Some Print → Allowed command input a → Reads input Prints a ⊎ LacksMemory a
   print_alone some (Allowed.usage none u is) = absurd (no_command command Print none some)
   print_alone some (Allowed.unserved c e off u is) = absurd (other_served command c Print e some off refl)
   print_alone some (Allowed.synth o e plain reads) = let bad : Print ≡ Synth o = same_command command Print (Synth o) some e in absurd cc
+  print_alone some (Allowed.space text e reads) = let bad : Print ≡ Space text = same_command command Print (Space text) some e in absurd cc
   print_alone some (Allowed.print e reads) = inl reads
   print_alone some (Allowed.no_memory is) = inr is
 
@@ -78,6 +97,7 @@ module _ (command : Option Command) (input : Change) (a : Answer) where
     usage = usage_alone;
     unserved = unserved_alone;
     synth = synth_alone;
+    space = space_alone;
     print = print_alone;
     check_usage = check_usage_alone;
     check = check_alone;
@@ -163,27 +183,36 @@ module _ (input : Change) (bytes : List ℕ) (told : input.before ≡ Some bytes
 
 -- ---- protocols
 
--- what has a report is served
-pub not_unbuilt : (options : Options) (p : Protocol) (a : Answer) → Reports options p a → IsUnbuilt options p → ⊥
-not_unbuilt options p a r (inl large) = large r.small
-not_unbuilt options p a r (inr none) = none r.template r.named
-
 search_chooses : (options : Options) (p : Protocol) (a : Answer) → SearchChooses options p a
-search_chooses options p a = record { report = reported; unbuilt = refused_so }
+search_chooses options p a = record { told = told; faulty = faulty }
   where
-    reported : (t : Option Template) → IsSmall p → NamesBy options.breadth t → Searches options p a → Reports options p a
-    reported t small named (Searches.report r) = r
-    reported t small named (Searches.unbuilt (inl large) is) = absurd (large small)
-    reported t small named (Searches.unbuilt (inr none) is) = absurd (none t named)
+    told : (t : Option Template) → NamesBy options p t → Searches options p a → Reports options p a ⊎ Stops options p a
+    told t named (Searches.report r) = inl r
+    told t named (Searches.stopped s) = inr s
+    told t named (Searches.faulty text f e has is) = absurd (named_not_faulty options p t named text f e has)
 
-    refused_so : IsUnbuilt options p → Searches options p a → a ≡ refused Unbuilt
-    refused_so cause (Searches.report r) = absurd (not_unbuilt options p a r cause)
-    refused_so cause (Searches.unbuilt other is) = is
+    faulty : (text : List ℕ) (f : SpaceFault) → options.breadth ≡ Some text → HasSpace p text (Err f) → Searches options p a → a ≡ refused (BreadthFaulty f)
+    faulty text f e has (Searches.report r) = absurd (named_not_faulty options p r.template r.named text f e has)
+    faulty text f e has (Searches.stopped s) = absurd (named_not_faulty options p s.template s.named text f e has)
+    faulty text f e has (Searches.faulty other g e' has' is) = is ∙ ap (λ x. refused (BreadthFaulty x)) (one_breadth_fault options p other text g f e' e has' has)
+
+pub size_chooses : (text : List ℕ) (p : Protocol) (a : Answer) → SizeChooses text p a
+size_chooses text p a = record { sizes = sizes; faulty = faulty }
+  where
+    sizes : (t : Template) → HasSpace p text (Ok t) → Sizes text p a → a ≡ sized p t
+    sizes t has (Sizes.sizes u other is) = is ∙ ap (sized p) (same_named u t (one_space p text (Ok u) (Ok t) other has))
+    sizes t has (Sizes.faulty f other is) = absurd (unfaulty t f (one_space p text (Ok t) (Err f) has other))
+
+    faulty : (f : SpaceFault) → HasSpace p text (Err f) → Sizes text p a → a ≡ refused (SpaceFaulty f)
+    faulty f has (Sizes.sizes t other is) = absurd (unfaulty t f (one_space p text (Ok t) (Err f) other has))
+    faulty f has (Sizes.faulty g other is) = is ∙ ap (λ x. refused (SpaceFaulty x)) (same_fault g f (one_space p text (Err g) (Err f) other has))
 
 pub rows_exclude : RowsExcludeEachOther
 rows_exclude = (
   words_choose,
   λ options input bytes a told. input_chooses input bytes told (Searches options) a,
   λ input bytes a told. input_chooses input bytes told Prints a,
+  λ text input bytes a told. input_chooses input bytes told (Sizes text) a,
   search_chooses,
+  size_chooses,
 )

@@ -6,7 +6,6 @@ use Rattle.sw_meaning.specs.Edges.{protocol_edges}
 use Rattle.sw_meaning.specs.ProtocolText.{sort_text}
 use Rattle.sw_logic.specs.Strata.{FirstOnCycle}
 use Rattle.sw_protocol.specs.declared.texts.ProtocolError.{ProtocolError}
-use Rattle.sw_protocol.specs.Texts.{HasDeclared}
 use Rattle.sw_protocol.specs.Stratified.{Judges, HasProtocol, IsText}
 use Rattle.sw_protocol.proofs.OneDeclared.{one_declared}
 use Rattle.sw_protocol.proofs.OneReading.{one_protocol, same_first}

@@ -1,9 +1,10 @@
+pub mod Budgets
 pub mod Causes
-pub mod ClassText
-pub mod Commands
 pub mod Ends
 pub mod Inputs
 pub mod OneAnswer
+pub mod Naming
 pub mod OneReport
+pub mod OneSearch
 pub mod Rows
 pub mod Sinks

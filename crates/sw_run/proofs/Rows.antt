@@ -1,10 +1,9 @@
 -- What errors and answers of parts are told as, by the rows of the table of causes.
-use Rattle.std.specs.Prelude.{◌≡◌, ◌⊎◌, ℕ, ◌++◌, true, false, List, [], Option, Some, IfSome, IfErr, Result, Ok, Err, IsErrAnd, option_map}
+use Rattle.std.specs.Prelude.{◌≡◌, ◌⊎◌, ℕ, ◌++◌, ◌<◌, ◌≤◌, ◌^◌, true, false, List, [], length, Option, Some, IfSome, IfErr, Result, Ok, Err, IsErrAnd}
 use Rattle.std.proofs.Common.{refl, sym, ap, ◌∙◌, subst, inl, inr, append-nil}
 use Rattle.std.proofs.lemmas.Bool.{false≢true}
 use Rattle.sw_meaning.specs.declared.protocol.Protocol.{Protocol}
 use Rattle.sw_meaning.specs.ProtocolText.{protocol_text, sort_text}
-use Rattle.sw_meaning.specs.Small.{small_template}
 use Rattle.sw_protocol.specs.declared.texts.ProtocolError.{ProtocolError}
 use Rattle.sw_logic.specs.declared.syntax.Edge.{Edge}
 use Rattle.sw_logic.specs.Strata.{FirstOnCycle}
@@ -17,14 +16,31 @@ use Rattle.sw_protocol.specs.Stratified.{IsText}
 use Rattle.sw_words.specs.declared.commands.Command.{Command}
 use Rattle.sw_words.specs.declared.commands.Command.TheVariants.{Synth, Certify, Space, Print, Check, Drill}
 use Rattle.sw_words.specs.declared.commands.Options.{Options}
-use Rattle.sw_run.specs.Words.{IsAsked, NamesBy, is_plain, is_check, is_served}
-use Rattle.sw_run.specs.Ending.{Change, Answer, Faults, Misreads, Reads, Searches, Prints, IsInput, IsSpelled, IsUntouched, Allowed, AllowedCheck, refused, answer_of}
-use Rattle.sw_run.specs.Refusals.{input_refusal}
+use Rattle.sw_run.specs.Words.{is_plain, is_check, is_served}
+use Rattle.sw_run.specs.Ending.{Change, Answer, Faults, Misreads, Reads, Searches, NamesBy, IsBreadthFault, Prints, Sizes, IsInput, IsSpelled, IsUntouched, Allowed, AllowedCheck, refused, answer_of, told_answer}
+use Rattle.sw_run.specs.Refusals.{input_refusal, space_refusal}
+use Rattle.sw_meaning.specs.Classes.{atoms, classes_of}
+use Rattle.sw_enumerate.specs.Spaces.{Made, IsSpaceOf, classes_in}
+use Rattle.sw_space.specs.declared.faults.NoSpace.{NoSpace}
+use Rattle.sw_space.specs.declared.faults.NoSpace.TheVariants as no_space
+use Rattle.sw_space.specs.Lines.{numbers_text, sizes_of}
+use Rattle.sw_space.specs.Named.{HasSpace, answer_of as space_answer}
 use Rattle.sw_run.specs.declared.report.Report.{Report}
 use Rattle.sw_run.specs.declared.told.Refusal.{Refusal}
-use Rattle.sw_run.specs.declared.told.Refusal.TheVariants.{NotStratified, Unbuilt, NoMemory}
-use Rattle.sw_run.specs.declared.words.Asked.{Asked}
-use Rattle.sw_run.specs.declared.words.Asked.TheVariants.{Served}
+use Rattle.sw_run.specs.declared.told.Refusal.TheVariants.{NotStratified, BreadthFaulty, Unbuilt, NoMemory}
+use Rattle.sw_meaning.specs.declared.template.Template.{Template}
+use Rattle.sw_meaning.specs.Edges.{IsStratifiedWith}
+use Rattle.sw_template.specs.Edges.{template_edges}
+use Rattle.sw_space.specs.declared.faults.SpaceFault.{SpaceFault}
+use Rattle.sw_space.specs.Named.{Fits, IsWithinLimits}
+use Rattle.sw_search.specs.declared.telling.Told.{Told}
+use Rattle.sw_search.specs.declared.telling.Told.TheVariants as telling
+use Rattle.sw_search.specs.Searches.{IsTold}
+use Rattle.sw_search.specs.Spaces.{IsSearchable}
+use Rattle.sw_template_text.specs.Texts.{IsTemplate}
+use Rattle.sw_template_text.proofs.OneTemplate.{texts_are_templates}
+use Rattle.sw_lists.proofs.Each.{each-weaker}
+use Rattle.sw_meaning.specs.declared.template.Run.{Run}
 
 -- ---- the input
 
@@ -88,13 +104,77 @@ pub print_row : (input : Change) (a : Answer) → Reads input Prints a ⊎ (a �
 print_row input a (inl reads) = Allowed.print refl reads
 print_row input a (inr lacks) = Allowed.no_memory lacks
 
+pub space_row : (text : List ℕ) (input : Change) (a : Answer) → Reads input (Sizes text) a ⊎ (a ≡ refused NoMemory) → Allowed (Some (Space text)) input a
+space_row text input a (inl reads) = Allowed.space text refl reads
+space_row text input a (inr lacks) = Allowed.no_memory lacks
+
+-- the sizes of a space that was named, and a fault that was told
+pub sizes_told : (p : Protocol) (text told : List ℕ) (s : Made) → IfSome (space_answer (Ok s)) (HasSpace p text) → IsSpaceOf p.signature s.template s
+    → told ≡ numbers_text (length s.atoms) (length s.cubes) (length (classes_in s)) → Sizes text p (record { status = 0; text = told; line = [] })
+sizes_told p text told s has made is =
+    let sizes : told ≡ sizes_of p.signature s.template =
+    is ∙ (ap (λ xs. numbers_text (length xs) (length s.cubes) (length (classes_in s))) made.atoms_are
+    ∙ ap (λ xs. numbers_text (length (atoms p.signature s.template)) (length xs) (length (classes_of s.template.literals xs))) made.cubes_are) in
+    Sizes.sizes s.template has (ap (λ t. record { status = 0; text = t; line = [] }) sizes)
+
+pub fault_told : (p : Protocol) (text : List ℕ) (e : NoSpace) (r : Result Report Refusal) → IsErrAnd r (λ x. x ≡ space_refusal e) → IfSome (space_answer (Err e)) (HasSpace p text)
+    → Sizes text p (answer_of r) ⊎ (r ≡ Err NoMemory)
+fault_told p text e (Ok x) is has = absurd is
+fault_told p text (no_space.Faulty f) (Err x) is has = inl (Sizes.faulty f has (ap refused is))
+fault_told p text no_space.Memory (Err x) is has = inr (ap Err is)
+
 pub printed_text : (p : Protocol) (text : List ℕ) → text ≡ protocol_text p → Prints p (record { status = 0; text = text; line = [] })
 printed_text p text is = ap (λ t. record { status = 0; text = t; line = [] }) is
 
--- ---- what the options ask for
+-- ---- searches
 
-pub one_named : (o : Options) (asked : Asked) (k : Option ℕ) → asked ≡ Served k → IsAsked o.breadth asked → NamesBy o.breadth (option_map small_template k)
-one_named o asked k served is = let both : IsAsked o.breadth (Served k) = subst (IsAsked o.breadth) served is in both.0
+-- what a search told, with the template that the options name
+pub told_searches : (o : Options) (p : Protocol) (t : Option Template) (told : Told) → NamesBy o p t → IsTold p t o.conflicts told → Searches o p (told_answer told)
+told_searches o p t (telling.Report status text) by is = Searches.report (record { template = t; named = by; report = is.0; within = is.1; line = refl })
+told_searches o p t (telling.Stopped line) by is = Searches.stopped (record { template = t; named = by; ended = is; is = refl })
+
+-- a fault of the template, passed on
+pub breadth_refused : (o : Options) (p : Protocol) (text : List ℕ) (e : Refusal) (r : Result Report Refusal) → o.breadth ≡ Some text → IsErrAnd r (λ x. x ≡ e) → IsBreadthFault p text e
+    → Searches o p (answer_of r) ⊎ (r ≡ Err NoMemory)
+breadth_refused o p text e (Ok x) named is why = absurd is
+breadth_refused o p text e (Err x) named is (inl why) = inl (Searches.faulty text why.0 named why.1 (ap refused (is ∙ why.2)))
+breadth_refused o p text e (Err x) named is (inr lacks) = inr (ap Err (is ∙ lacks))
+
+-- an answer that is what was told
+pub answer_searches : (o : Options) (p : Protocol) (t : Option Template) (told : Told) (r : Result Report Refusal) → NamesBy o p t → IsTold p t o.conflicts told → answer_of r ≡ told_answer told
+    → Searches o p (answer_of r) ⊎ (r ≡ Err NoMemory)
+answer_searches o p t told r by is same = inl (subst (Searches o p) (sym same) (told_searches o p t told by is))
+
+pub breadth_fault : (p : Protocol) (text : List ℕ) (e : NoSpace) (f : SpaceFault) → e ≡ no_space.Faulty f → IfSome (space_answer (Err e)) (HasSpace p text) → IsBreadthFault p text (BreadthFaulty f)
+breadth_fault p text (no_space.Faulty g) f is has = let same : g ≡ f = cc in inl (f, subst (λ x. HasSpace p text (Err x)) same has, refl)
+breadth_fault p text no_space.Memory f is has = absurd cc
+
+-- the space that was named can be searched
+module _ (p : Protocol) (s : Made) (made : IsSpaceOf p.signature s.template s) where
+  fits_searchable : IsTemplate p.signature s.template → (r : Result Template SpaceFault) → r ≡ Ok s.template → Fits p s.template r → IsSearchable p s
+  fits_searchable is r ok (Fits.cycle sort first bad) = absurd cc
+  fits_searchable is r ok (Fits.over e f stratified refuses which bad) = absurd cc
+  fits_searchable is r ok (Fits.within stratified limits same) = record {
+    made = made;
+    over = each-weaker (λ (run : Run). (0 < run.count) × (run.sort < length p.signature.sorts)) (λ run. run.sort < length p.signature.sorts) (λ run h. h.1) s.template.prefix is.runs;
+    variables = is.variables;
+    few = subst (λ cubes. length (classes_of s.template.literals cubes) ≤ 2 ^ 32) (sym made.cubes_are) limits.classes;
+    stratified = stratified;
+  }
+
+  named_searchable : (text : List ℕ) (r : Result Template SpaceFault) → r ≡ Ok s.template → HasSpace p text r → IsSearchable p s
+  named_searchable text r ok (HasSpace.unread e f has which bad) = absurd cc
+  named_searchable text r ok (HasSpace.read t has fits) = read_searchable t (texts_are_templates p.signature text t has) fits
+    where
+      read_searchable : (t : Template) → IsTemplate p.signature t → Fits p t r → IsSearchable p s
+      read_searchable t is (Fits.cycle sort first bad) = absurd cc
+      read_searchable t is (Fits.over e f stratified refuses which bad) = absurd cc
+      read_searchable t is (Fits.within stratified limits same) =
+          let one : t ≡ s.template = cc in
+          fits_searchable (subst (IsTemplate p.signature) one is) (Ok s.template) refl (Fits.within (subst (λ u. IsStratifiedWith p (template_edges u)) one stratified) (subst (IsWithinLimits p.signature) one limits) refl)
+
+pub space_searchable : (p : Protocol) (text : List ℕ) (s : Made) → HasSpace p text (Ok s.template) → IsSpaceOf p.signature s.template s → IsSearchable p s
+space_searchable p text s has made = named_searchable p s made text (Ok s.template) refl has
 
 -- ---- what the words are told as
 
@@ -102,9 +182,11 @@ one_named o asked k served is = let both : IsAsked o.breadth (Served k) = subst 
 pub check_printed : (c : Command) (input : Change) (a : Answer) → c ≡ Print → Allowed (Some Print) input a → AllowedCheck (Some c) input a
 check_printed c input a is allowed = AllowedCheck.check (ap is_check is) (subst (λ d. Allowed (Some d) input a) (sym is) allowed)
 
-pub check_unserved : (c : Command) (input : Change) → ((text : List ℕ) × (c ≡ Space text)) ⊎ (c ≡ Check) → IsUntouched input → AllowedCheck (Some c) input (refused Unbuilt)
-check_unserved c input (inl is) untouched = AllowedCheck.check (ap is_check is.1) (Allowed.unserved c refl (ap is_served is.1) untouched refl)
-check_unserved c input (inr is) untouched = AllowedCheck.check (ap is_check is) (Allowed.unserved c refl (ap is_served is) untouched refl)
+pub check_sized : (c : Command) (text : List ℕ) (input : Change) (a : Answer) → c ≡ Space text → Allowed (Some (Space text)) input a → AllowedCheck (Some c) input a
+check_sized c text input a is allowed = AllowedCheck.check (ap is_check is) (subst (λ d. Allowed (Some d) input a) (sym is) allowed)
+
+pub check_unserved : (c : Command) (input : Change) → c ≡ Check → IsUntouched input → AllowedCheck (Some c) input (refused Unbuilt)
+check_unserved c input is untouched = AllowedCheck.check (ap is_check is) (Allowed.unserved c refl (ap is_served is) untouched refl)
 
 pub check_allowed : (command : Option Command) (c : Command) (input : Change) (a : Answer) → command ≡ Some c → is_check c ≡ true → AllowedCheck (Some c) input a → Allowed command input a
 check_allowed command c input a is on (AllowedCheck.usage off u refused) = absurd (false≢true (sym off ∙ on))

@@ -1,15 +1,16 @@
 -- What an answer leaves in sinks that tell their bytes, and that only a failed sink has the status 6.
-use Rattle.std.specs.Prelude.{◌≡◌, ◌⊎◌, ℕ, List, [], ◌++◌, Option, Some, option_map}
+use Rattle.std.specs.Prelude.{◌≡◌, ℕ, List, [], ◌++◌, Option, Some, option_map}
 use Rattle.std.proofs.Common.{sym, ap, ◌∙◌, append-nil, inl, inr}
 use Rattle.sw_meaning.specs.declared.protocol.Protocol.{Protocol}
 use Rattle.sw_meaning.specs.Verdict.{Word}
 use Rattle.sw_words.specs.declared.commands.Command.{Command}
 use Rattle.sw_words.specs.declared.commands.Options.{Options}
 use Rattle.sw_run.specs.Refusals.{refusal_status}
-use Rattle.sw_run.specs.Ending.{Change, Answer, Misreads, Reads, Searches, Prints, Allowed, AllowedCheck, Ends, Gained, refused, word_status}
-use Rattle.sw_run.specs.Laws.{Failed, IsTold, AnswerIsTold}
+use Rattle.sw_run.specs.Ending.{Change, Answer, Misreads, Reads, Searches, Prints, Sizes, Allowed, AllowedCheck, Ends, Gained, refused}
+use Rattle.sw_report.specs.Words.{word_status}
+use Rattle.sw_run.specs.Laws.{IsTold, AnswerIsTold}
 use Rattle.sw_run.specs.declared.told.Refusal.{Refusal}
-use Rattle.sw_run.specs.declared.told.Refusal.TheVariants.{Usage, TooLong, Faulty, NotStratified, Unbuilt, ReadFault, NoMemory}
+use Rattle.sw_run.specs.declared.told.Refusal.TheVariants.{Usage, TooLong, Faulty, NotStratified, SpaceFaulty, BreadthFaulty, Stopped, Unbuilt, ReadFault, NoMemory}
 
 -- ---- no answer has the status of a failed write
 
@@ -25,6 +26,9 @@ refusal_is_not_6 Usage e = cc
 refusal_is_not_6 TooLong e = cc
 refusal_is_not_6 (Faulty f at) e = cc
 refusal_is_not_6 (NotStratified name) e = cc
+refusal_is_not_6 (SpaceFaulty f) e = cc
+refusal_is_not_6 (BreadthFaulty f) e = cc
+refusal_is_not_6 (Stopped text) e = cc
 refusal_is_not_6 Unbuilt e = cc
 refusal_is_not_6 ReadFault e = cc
 refusal_is_not_6 NoMemory e = cc
@@ -46,15 +50,21 @@ read_is_not_6 input Answers a each (Reads.read p spelled answers) = each p answe
 
 search_is_not_6 : (options : Options) (a : Answer) (p : Protocol) → Searches options p a → IsNot6 a
 search_is_not_6 options a p (Searches.report r) e = word_is_not_6 r.report.word (sym r.report.ends ∙ e)
-search_is_not_6 options a p (Searches.unbuilt cause is) e = refused_is_not_6 a Unbuilt is e
+search_is_not_6 options a p (Searches.stopped s) e = let four : ◌≡◌ {A = ℕ} 4 6 = sym (ap (λ b. b.status) s.is) ∙ e in cc
+search_is_not_6 options a p (Searches.faulty text f named has is) e = refused_is_not_6 a (BreadthFaulty f) is e
 
 print_is_not_6 : (a : Answer) (p : Protocol) → Prints p a → IsNot6 a
 print_is_not_6 a p is e = let zero : ◌≡◌ {A = ℕ} 0 6 = sym (ap (λ b. b.status) is) ∙ e in cc
+
+size_is_not_6 : (text : List ℕ) (a : Answer) (p : Protocol) → Sizes text p a → IsNot6 a
+size_is_not_6 text a p (Sizes.sizes t has is) e = let zero : ◌≡◌ {A = ℕ} 0 6 = sym (ap (λ b. b.status) is) ∙ e in cc
+size_is_not_6 text a p (Sizes.faulty f has is) e = refused_is_not_6 a (SpaceFaulty f) is e
 
 run_is_not_6 : (command : Option Command) (input : Change) (a : Answer) → Allowed command input a → IsNot6 a
 run_is_not_6 command input a (Allowed.usage none u is) = refused_is_not_6 a Usage is
 run_is_not_6 command input a (Allowed.unserved c some off u is) = refused_is_not_6 a Unbuilt is
 run_is_not_6 command input a (Allowed.synth o some plain reads) = read_is_not_6 input (Searches o) a (search_is_not_6 o a) reads
+run_is_not_6 command input a (Allowed.space text some reads) = read_is_not_6 input (Sizes text) a (size_is_not_6 text a) reads
 run_is_not_6 command input a (Allowed.print some reads) = read_is_not_6 input Prints a (print_is_not_6 a) reads
 run_is_not_6 command input a (Allowed.no_memory is) = refused_is_not_6 a NoMemory is
 

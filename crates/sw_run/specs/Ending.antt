@@ -1,14 +1,8 @@
 -- What a run may end with: the answers that words and input allow, and how an answer is told.
 use Rattle.std.specs.Prelude.{◌≡◌, ◌⊎◌, ◌<◌, ◌≤◌, ℕ, true, false, List, [], length, Option, Some, None, IfSome, string_bytes, Result, Ok, Err}
-use Rattle.sw_logic.specs.declared.syntax.Formula.{Formula}
 use Rattle.sw_meaning.specs.declared.protocol.Protocol.{Protocol}
 use Rattle.sw_meaning.specs.declared.template.Template.{Template}
-use Rattle.sw_meaning.specs.Small.{IsSmall}
-use Rattle.sw_meaning.specs.Inductive.{Earned, Closed}
-use Rattle.sw_meaning.specs.Plain.{PlainList, formulas_of}
 use Rattle.sw_meaning.specs.ProtocolText.{protocol_text, sort_text}
-use Rattle.sw_meaning.specs.Verdict.{Word, Verdict}
-use Rattle.sw_meaning.specs.Report.{report_text}
 use Rattle.sw_edge.specs.Edge.{Gains, GainsPrefix, Rose, Took}
 use Rattle.sw_protocol.specs.declared.texts.ProtocolError.{ProtocolError}
 use Rattle.sw_logic.specs.Strata.{FirstOnCycle}
@@ -16,13 +10,20 @@ use Rattle.sw_meaning.specs.Edges.{protocol_edges}
 use Rattle.sw_protocol.specs.Texts.{HasDeclared}
 use Rattle.sw_protocol.specs.Stratified.{IsText}
 use Rattle.sw_words.specs.declared.commands.Command.{Command}
-use Rattle.sw_words.specs.declared.commands.Command.TheVariants.{Synth, Print}
+use Rattle.sw_words.specs.declared.commands.Command.TheVariants.{Synth, Space, Print}
 use Rattle.sw_words.specs.declared.commands.Options.{Options}
-use Rattle.sw_run.specs.Words.{NamesBy, NamesNone, is_plain, is_served, asks_check}
+use Rattle.sw_run.specs.Words.{is_plain, is_served, asks_check}
 use Rattle.sw_run.specs.Refusals.{input_refusal, refusal_status, refusal_line}
 use Rattle.sw_run.specs.declared.input.TheConstants.{INPUT_LIMIT}
 use Rattle.sw_run.specs.declared.told.Refusal.{Refusal}
-use Rattle.sw_run.specs.declared.told.Refusal.TheVariants.{Usage, TooLong, NotStratified, Unbuilt, ReadFault, NoMemory}
+use Rattle.sw_run.specs.declared.told.Refusal.TheVariants.{Usage, TooLong, NotStratified, SpaceFaulty, BreadthFaulty, Unbuilt, ReadFault, NoMemory}
+use Rattle.sw_space.specs.declared.faults.SpaceFault.{SpaceFault}
+use Rattle.sw_space.specs.Lines.{sizes_of}
+use Rattle.sw_space.specs.Named.{HasSpace}
+use Rattle.sw_report.specs.declared.report.TheConstants.{OUTPUT_LIMIT}
+use Rattle.sw_search.specs.declared.telling.Told.{Told}
+use Rattle.sw_search.specs.declared.telling.Told.TheVariants as telling
+use Rattle.sw_search.specs.Searches.{IsReport, IsStopped}
 use Rattle.sw_run.specs.declared.report.Report.{Report}
 
 -- a source or a sink before a call and after it: its bytes, where they are told, and its faults
@@ -93,45 +94,44 @@ pub data Reads (input : Change) (Answers : Protocol → Answer → Type 0) (a : 
 
 -- ---- the answers of each command to a protocol
 
-abbrev pub word_status : Word → ℕ
-word_status Word.violated = 11
-word_status Word.safe = 0
-word_status (Word.safe_with f) = 0
-word_status Word.exhausted = 10
-word_status Word.unsettled = 10
-
--- the list is that of the plain pass, and empty without a template
-abbrev pub IsPlain : Protocol → Option Template → List Formula → Type 0
-IsPlain p None list = list ≡ []
-IsPlain p (Some t) list = (found : List (List ℕ)) × PlainList p t found × (list ≡ formulas_of p t found)
-
--- the status and the text are those of a list that is earned and closed, and of its word
-pub record IsReport (p : Protocol) (t : Option Template) (status : ℕ) (bytes : List ℕ) : Type 0 where
-  pub list : List Formula
-  pub word : Word
-  pub earned : Earned p t list
-  pub closed : Closed p t list
-  pub plain : IsPlain p t list
-  pub verdict : Verdict p None list word
-  pub text : bytes ≡ report_text p t list word
-  pub ends : status ≡ word_status word
+-- the options name this template over the protocol, or leave it out
+pub data NamesBy (options : Options) (p : Protocol) (t : Option Template) : Type 0 where
+  without : options.breadth ≡ None → t ≡ None → NamesBy options p t
+  named : (text : List ℕ) (u : Template) → options.breadth ≡ Some text → HasSpace p text (Ok u) → t ≡ Some u → NamesBy options p t
 
 -- a report on the protocol, with the template that the options name
 pub record Reports (options : Options) (p : Protocol) (a : Answer) : Type 0 where
-  pub small : IsSmall p
   pub template : Option Template
-  pub named : NamesBy options.breadth template
+  pub named : NamesBy options p template
   pub report : IsReport p template a.status a.text
+  pub within : length a.text ≤ OUTPUT_LIMIT
   pub line : a.line ≡ []
 
--- the protocol, or the template, is not served
-abbrev pub IsUnbuilt : Options → Protocol → Type 0
-IsUnbuilt options p = (IsSmall p → ⊥) ⊎ NamesNone options
+-- the line of what ended a search
+abbrev pub stop : List ℕ → Answer
+stop line = record { status = 4; text = []; line = line }
+
+-- a query ended the search, or its report is too long
+pub record Stops (options : Options) (p : Protocol) (a : Answer) : Type 0 where
+  pub template : Option Template
+  pub named : NamesBy options p template
+  pub ended : IsStopped p template options.conflicts a.line
+  pub is : a ≡ stop a.line
 
 -- what a search answers of a protocol
 pub data Searches (options : Options) (p : Protocol) (a : Answer) : Type 0 where
   report : Reports options p a → Searches options p a
-  unbuilt : IsUnbuilt options p → a ≡ refused Unbuilt → Searches options p a
+  stopped : Stops options p a → Searches options p a
+  faulty : (text : List ℕ) (f : SpaceFault) → options.breadth ≡ Some text → HasSpace p text (Err f) → a ≡ refused (BreadthFaulty f) → Searches options p a
+
+-- the refusal tells the fault of the template's text, or memory ran out
+abbrev pub IsBreadthFault : Protocol → List ℕ → Refusal → Type 0
+IsBreadthFault p text r = ((f : SpaceFault) × HasSpace p text (Err f) × (r ≡ BreadthFaulty f)) ⊎ (r ≡ NoMemory)
+
+-- what a search tells, as an answer
+abbrev pub told_answer : Told → Answer
+told_answer (telling.Report status text) = record { status = status; text = string_bytes text; line = [] }
+told_answer (telling.Stopped line) = stop (string_bytes line)
 
 abbrev pub printed : Protocol → Answer
 printed p = record { status = 0; text = protocol_text p; line = [] }
@@ -139,6 +139,14 @@ printed p = record { status = 0; text = protocol_text p; line = [] }
 -- what `print` answers of a protocol: its canonical text
 abbrev pub Prints : Protocol → Answer → Type 0
 Prints p a = a ≡ printed p
+
+abbrev pub sized : Protocol → Template → Answer
+sized p t = record { status = 0; text = sizes_of p.signature t; line = [] }
+
+-- what `space` answers of a protocol: the numbers of atoms, cubes and classes of the template that the text is, or its first fault
+pub data Sizes (text : List ℕ) (p : Protocol) (a : Answer) : Type 0 where
+  sizes : (t : Template) → HasSpace p text (Ok t) → a ≡ sized p t → Sizes text p a
+  faulty : (f : SpaceFault) → HasSpace p text (Err f) → a ≡ refused (SpaceFaulty f) → Sizes text p a
 
 -- ---- the answers to words and input
 
@@ -148,6 +156,7 @@ pub data Allowed (command : Option Command) (input : Change) (a : Answer) : Type
   usage : command ≡ None → IsUntouched input → a ≡ refused Usage → Allowed command input a
   unserved : (c : Command) → command ≡ Some c → is_served c ≡ false → IsUntouched input → a ≡ refused Unbuilt → Allowed command input a
   synth : (options : Options) → command ≡ Some (Synth options) → is_plain options ≡ true → Reads input (Searches options) a → Allowed command input a
+  space : (text : List ℕ) → command ≡ Some (Space text) → Reads input (Sizes text) a → Allowed command input a
   print : command ≡ Some Print → Reads input Prints a → Allowed command input a
   no_memory : a ≡ refused NoMemory → Allowed command input a
 

@@ -1,28 +1,39 @@
 -- The laws of the endings: the causes of different answers never stand together, and the words and the bytes of the input fix the answer.
-use Rattle.std.specs.Prelude.{◌≡◌, ◌⊎◌, ◌<◌, ◌≤◌, ℕ, true, false, List, [], ◌∷◌, ◌++◌, map, length, Option, Some, None}
+use Rattle.std.specs.Prelude.{◌≡◌, ◌⊎◌, ◌<◌, ◌≤◌, ℕ, true, false, List, [], ◌∷◌, ◌++◌, map, length, Option, Some, None, Ok, Err}
 use Rattle.sw_logic.specs.declared.syntax.Formula.{Formula}
 use Rattle.sw_meaning.specs.declared.protocol.Protocol.{Protocol}
 use Rattle.sw_meaning.specs.Verdict.{Word}
 use Rattle.sw_protocol.specs.Stratified.{IsText}
 use Rattle.sw_words.specs.declared.commands.Command.{Command}
-use Rattle.sw_words.specs.declared.commands.Command.TheVariants.{Synth, Print}
+use Rattle.sw_words.specs.declared.commands.Command.TheVariants.{Synth, Space, Print}
 use Rattle.sw_words.specs.declared.commands.Options.{Options}
 use Rattle.sw_meaning.specs.declared.template.Template.{Template}
-use Rattle.sw_meaning.specs.Small.{IsSmall}
-use Rattle.sw_run.specs.Words.{NamesBy, is_plain, is_served, asks_check}
+use Rattle.sw_run.specs.Words.{is_plain, is_served, asks_check}
 use Rattle.sw_edge.specs.Edge.{Rose}
-use Rattle.sw_run.specs.Ending.{Change, Answer, Faults, Reads, Searches, Reports, Prints, IsUnbuilt, IsTooLong, IsUntouched, Allowed, AllowedCheck, Ends, refused, word_status}
+use Rattle.sw_run.specs.Ending.{Change, Answer, Faults, Reads, Searches, Reports, Stops, NamesBy, Prints, Sizes, IsTooLong, IsUntouched, Allowed, AllowedCheck, Ends, refused, stop, sized}
 use Rattle.sw_run.specs.declared.input.TheConstants.{INPUT_LIMIT}
 use Rattle.sw_run.specs.declared.told.Refusal.{Refusal}
-use Rattle.sw_run.specs.declared.told.Refusal.TheVariants.{Usage, TooLong, Unbuilt, ReadFault, NoMemory}
+use Rattle.sw_run.specs.declared.told.Refusal.TheVariants.{Usage, TooLong, SpaceFaulty, BreadthFaulty, Unbuilt, ReadFault, NoMemory}
+use Rattle.sw_space.specs.declared.faults.SpaceFault.{SpaceFault}
+use Rattle.sw_space.specs.Named.{HasSpace}
+use Rattle.sw_logic.specs.declared.syntax.Signature.{Signature}
+use Rattle.sw_report.specs.Words.{Query, word_status}
+use Rattle.sw_search.specs.Searches.{Ended, ended_line}
 
 -- want of memory
 abbrev pub LacksMemory : Answer → Type 0
 LacksMemory a = a ≡ refused NoMemory
 
--- want of memory, or a failed read
+-- a query that was spent, or that is too large, ended a search
+pub record IsEnded (a : Answer) : Type 0 where
+  pub sig : Signature
+  pub query : Query
+  pub ended : Ended
+  pub is : a ≡ stop (ended_line sig query ended)
+
+-- want of memory, a failed read, or a query that ended a search
 abbrev pub IsLost : Answer → Type 0
-IsLost a = LacksMemory a ⊎ (a ≡ refused ReadFault)
+IsLost a = LacksMemory a ⊎ ((a ≡ refused ReadFault) ⊎ IsEnded a)
 
 -- this refusal, and nothing was taken from the source
 abbrev pub IsRefusedUnread : Refusal → Change → Answer → Type 0
@@ -36,12 +47,13 @@ pub record Tells (input : Change) : Type 0 where
   pub now : input.now ≡ Some last
 
 -- the words choose the row, but for want of memory: where they are no command, usage is the one
--- answer; where they are one that is not served, that is; a search that is served and `print` are
--- answered as what they read says; and `run_check` gives `space`, `print` and `check` the answers of `run`
+-- answer; where they are one that is not served, that is; a search that is served, `space` and `print`
+-- are answered as what they read says; and `run_check` gives `space`, `print` and `check` the answers of `run`
 pub record WordsChoose (command : Option Command) (input : Change) (a : Answer) : Type 0 where
   pub usage : command ≡ None → Allowed command input a → IsRefusedUnread Usage input a ⊎ LacksMemory a
   pub unserved : (c : Command) → command ≡ Some c → is_served c ≡ false → Allowed command input a → IsRefusedUnread Unbuilt input a ⊎ LacksMemory a
   pub synth : (options : Options) → command ≡ Some (Synth options) → is_plain options ≡ true → Allowed command input a → Reads input (Searches options) a ⊎ LacksMemory a
+  pub space : (text : List ℕ) → command ≡ Some (Space text) → Allowed command input a → Reads input (Sizes text) a ⊎ LacksMemory a
   pub print : command ≡ Some Print → Allowed command input a → Reads input Prints a ⊎ LacksMemory a
   pub check_usage : asks_check command ≡ false → AllowedCheck command input a → IsRefusedUnread Usage input a ⊎ LacksMemory a
   pub check : asks_check command ≡ true → AllowedCheck command input a → Allowed command input a
@@ -56,22 +68,29 @@ pub record InputChooses (input : Change) (bytes : List ℕ) (Answers : Protocol 
 
 -- the options and the protocol choose the row of a search
 pub record SearchChooses (options : Options) (p : Protocol) (a : Answer) : Type 0 where
-  pub report : (t : Option Template) → IsSmall p → NamesBy options.breadth t → Searches options p a → Reports options p a
-  pub unbuilt : IsUnbuilt options p → Searches options p a → a ≡ refused Unbuilt
+  pub told : (t : Option Template) → NamesBy options p t → Searches options p a → Reports options p a ⊎ Stops options p a
+  pub faulty : (text : List ℕ) (f : SpaceFault) → options.breadth ≡ Some text → HasSpace p text (Err f) → Searches options p a → a ≡ refused (BreadthFaulty f)
+
+-- the template's text and the protocol choose the row of `space`
+pub record SizeChooses (text : List ℕ) (p : Protocol) (a : Answer) : Type 0 where
+  pub sizes : (t : Template) → HasSpace p text (Ok t) → Sizes text p a → a ≡ sized p t
+  pub faulty : (f : SpaceFault) → HasSpace p text (Err f) → Sizes text p a → a ≡ refused (SpaceFaulty f)
 
 abbrev pub RowsExcludeEachOther : Type 0
 RowsExcludeEachOther =
     ((command : Option Command) (input : Change) (a : Answer) → WordsChoose command input a)
     × ((options : Options) (input : Change) (bytes : List ℕ) (a : Answer) → input.before ≡ Some bytes → InputChooses input bytes (Searches options) a)
     × ((input : Change) (bytes : List ℕ) (a : Answer) → input.before ≡ Some bytes → InputChooses input bytes Prints a)
+    × ((text : List ℕ) (input : Change) (bytes : List ℕ) (a : Answer) → input.before ≡ Some bytes → InputChooses input bytes (Sizes text) a)
     × ((options : Options) (p : Protocol) (a : Answer) → SearchChooses options p a)
+    × ((text : List ℕ) (p : Protocol) (a : Answer) → SizeChooses text p a)
 
 -- the options and the protocol fix a report, each byte of it
 abbrev pub OneReport : Type 0
 OneReport = (options : Options) (p : Protocol) (a b : Answer) → Reports options p a → Reports options p b → a ≡ b
 
--- the words and the bytes that the source told fix the answer, but for want of memory and failed
--- reads: of `run`, and of `run_check`
+-- the words and the bytes that the source told fix the answer, but for want of memory, failed reads
+-- and queries that end a search: of `run`, and of `run_check`
 abbrev pub OneAnswer : Type 0
 OneAnswer =
     (command : Option Command) (i j : Change) (bytes : List ℕ) (a b : Answer) → i.before ≡ Some bytes → j.before ≡ Some bytes

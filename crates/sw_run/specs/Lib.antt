@@ -1,5 +1,4 @@
 pub mod Ending
 pub mod Laws
-pub mod Lines
 pub mod Refusals
 pub mod Words

@@ -1,5 +1,5 @@
 -- The refusals that errors are told as, and what each of them writes.
-use Rattle.std.specs.Prelude.{ℕ, List, ◌++◌, codes}
+use Rattle.std.specs.Prelude.{ℕ, List, ◌++◌, codes, string_bytes}
 use Rattle.std.specs.Fmt.{decimal}
 use Rattle.sw_edge.specs.declared.transfer.ReadError.{ReadError}
 use Rattle.sw_edge.specs.declared.transfer.ReadError.TheVariants as error
@@ -12,7 +12,10 @@ use Rattle.sw_protocol.specs.declared.texts.ProtocolError.{ProtocolError}
 use Rattle.sw_run.specs.declared.faults.Fault.{Fault}
 use Rattle.sw_run.specs.declared.faults.Fault.TheVariants as fault
 use Rattle.sw_run.specs.declared.told.Refusal.{Refusal}
-use Rattle.sw_run.specs.declared.told.Refusal.TheVariants.{Usage, TooLong, Faulty, NotStratified, Unbuilt, ReadFault, NoMemory}
+use Rattle.sw_space.specs.declared.faults.NoSpace.{NoSpace}
+use Rattle.sw_space.specs.declared.faults.NoSpace.TheVariants as no_space
+use Rattle.sw_space.specs.Lines.{fault_line as space_line}
+use Rattle.sw_run.specs.declared.told.Refusal.TheVariants.{Usage, TooLong, Faulty, NotStratified, SpaceFaulty, BreadthFaulty, Stopped, Unbuilt, ReadFault, NoMemory}
 
 abbrev pub words_refusal : WordsError → Refusal
 words_refusal words.Usage = Usage
@@ -31,6 +34,15 @@ input_refusal (ProtocolError.TooDeep at) = Faulty fault.TooDeep at
 input_refusal (ProtocolError.Broken v) = Faulty (fault.Broken v.rule) v.at
 input_refusal (ProtocolError.NotStratified sort) = NoMemory
 input_refusal ProtocolError.Memory = NoMemory
+
+abbrev pub space_refusal : NoSpace → Refusal
+space_refusal (no_space.Faulty f) = SpaceFaulty f
+space_refusal no_space.Memory = NoMemory
+
+-- the same of the template of `--breadth`
+abbrev pub breadth_refusal : NoSpace → Refusal
+breadth_refusal (no_space.Faulty f) = BreadthFaulty f
+breadth_refusal no_space.Memory = NoMemory
 
 abbrev pub rule_text : Rule → List ℕ
 rule_text rule.Twice = codes "Twice"
@@ -58,6 +70,9 @@ refusal_status Usage = 2
 refusal_status TooLong = 3
 refusal_status (Faulty f at) = 3
 refusal_status (NotStratified name) = 3
+refusal_status (SpaceFaulty f) = 3
+refusal_status (BreadthFaulty f) = 3
+refusal_status (Stopped text) = 4
 refusal_status Unbuilt = 3
 refusal_status ReadFault = 5
 refusal_status NoMemory = 7
@@ -67,6 +82,9 @@ refusal_line Usage = line (codes "usage: swiss synth|certify [--breadth TEXT] [-
 refusal_line TooLong = line (codes "swiss: input too long")
 refusal_line (Faulty f at) = fault_line f at
 refusal_line (NotStratified name) = cycle_line name
+refusal_line (SpaceFaulty f) = space_line (codes "space") f
+refusal_line (BreadthFaulty f) = space_line (codes "breadth") f
+refusal_line (Stopped text) = string_bytes text
 refusal_line Unbuilt = line (codes "swiss: Unbuilt")
 refusal_line ReadFault = line (codes "swiss: read fault")
 refusal_line NoMemory = line (codes "swiss: out of memory")

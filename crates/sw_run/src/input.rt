@@ -1,6 +1,7 @@
 // The protocol that an input is a text of.
 ghost use Rattle.std.specs.Prelude.{◌≡◌, ◌⊎◌, IfOk, IfErr};
 ghost use Rattle.sw_meaning.specs.ProtocolText.{sort_text};
+ghost use Rattle.sw_meaning.specs.WellFormed.{IsWellFormed};
 ghost use Rattle.sw_protocol.specs.Stratified.{IsText};
 ghost use Rattle.sw_run.specs.Ending.{Faults, IsSpelled, Misreads, change, refused};
 
@@ -32,6 +33,7 @@ fn not_stratified(alloc: Global, protocol: &Protocol, sort: u32) -> Refusal
 // The protocol that the bytes are a text of, or why they are none.
 fn read_text(alloc: Global, bytes: &[u8]) -> Result<Protocol, Refusal>
     ensures text { IfOk result (IsText bytes.now) }
+    ensures well_formed { IfOk result (λ p. IsWellFormed p) }
     ensures fault { IfErr result (λ e. Faults bytes.now e ⊎ (e ≡ Refusal.NoMemory)) }
 {
     declared_is_well_formed();
@@ -48,6 +50,7 @@ fn read_text(alloc: Global, bytes: &[u8]) -> Result<Protocol, Refusal>
 pub fn read_input<S: Source>(alloc: Global, source: &mut S) -> Result<Protocol, Refusal>
     ensures spelled { IfOk result (IsSpelled
         (change (S.left source.old) (S.left source.new) (S.faults source.old) (S.faults source.new))) }
+    ensures well_formed { IfOk result (λ p. IsWellFormed p) }
     ensures misread { IfErr result (λ e. Misreads
         (change (S.left source.old) (S.left source.new) (S.faults source.old) (S.faults source.new)) (refused e)
         ⊎ (e ≡ Refusal.NoMemory)) }

@@ -8,6 +8,7 @@ use std::alloc::{AllocError, Global};
 use sw_edge::{ReadError, Sink, write_all};
 use sw_logic::Name;
 use sw_protocol::ProtocolError;
+use sw_space::{NoSpace, SpaceFault};
 use sw_words::WordsError;
 
 /// The status of a run whose text or line could not be written.
@@ -22,6 +23,12 @@ pub enum Refusal {
     Faulty(Fault, u32),
     /// The functions and existential quantifiers lead from the sort of this name back to itself.
     NotStratified(Name),
+    /// The template of `space` has this fault.
+    SpaceFaulty(SpaceFault),
+    /// The template of `--breadth` has this fault.
+    BreadthFaulty(SpaceFault),
+    /// The line of the query that ended a search, or of a report that is too long.
+    Stopped(String),
     Unbuilt,
     ReadFault,
     NoMemory,
@@ -81,6 +88,19 @@ impl From<ProtocolError> for Refusal {
     }
 }
 
+impl From<NoSpace> for Refusal {
+    ghost use Rattle.sw_run.specs.Refusals.{space_refusal};
+
+    ghost from_gives = { λ error refusal. refusal ≡ space_refusal error };
+
+    fn from(error: NoSpace) -> Refusal {
+        match error {
+            NoSpace::Faulty(fault) => Refusal::SpaceFaulty(fault),
+            NoSpace::Memory => Refusal::NoMemory,
+        }
+    }
+}
+
 // Writes the text, and gives this status, or the one of a failed write.
 fn write_text<O: Sink>(sink: &mut O, text: &str, status: u8) -> u8
     ensures { Writes (change (O.held sink.old) (O.held sink.new) (O.faults sink.old) (O.faults sink.new)) text.now status result }
@@ -113,6 +133,28 @@ fn tell_cycle<E: Sink>(alloc: Global, name: &Name, err: &mut E) -> u8
     }
 }
 
+// Writes the line of a fault of the template of `space`, or that memory ran out before it was made.
+fn tell_space<E: Sink>(alloc: Global, fault: &SpaceFault, err: &mut E) -> u8
+    ensures { TellsRefusal (Refusal.SpaceFaulty fault.now)
+        (change (E.held err.old) (E.held err.new) (E.faults err.old) (E.faults err.new)) result }
+{
+    match fault.line(alloc, "space") {
+        Ok(line) => write_text(err, line.as_str(), 3),
+        Err(_) => write_text(err, "swiss: out of memory\n", 7),
+    }
+}
+
+// The same of the template of `--breadth`.
+fn tell_breadth<E: Sink>(alloc: Global, fault: &SpaceFault, err: &mut E) -> u8
+    ensures { TellsRefusal (Refusal.BreadthFaulty fault.now)
+        (change (E.held err.old) (E.held err.new) (E.faults err.old) (E.faults err.new)) result }
+{
+    match fault.line(alloc, "breadth") {
+        Ok(line) => write_text(err, line.as_str(), 3),
+        Err(_) => write_text(err, "swiss: out of memory\n", 7),
+    }
+}
+
 // Writes the line of a refusal, and gives the status to end with.
 fn tell_refusal<E: Sink>(alloc: Global, refusal: &Refusal, err: &mut E) -> u8
     ensures { TellsRefusal refusal.now
@@ -127,6 +169,9 @@ fn tell_refusal<E: Sink>(alloc: Global, refusal: &Refusal, err: &mut E) -> u8
         Refusal::TooLong => write_text(err, "swiss: input too long\n", 3),
         Refusal::Faulty(fault, at) => tell_fault(alloc, *fault, *at, err),
         Refusal::NotStratified(name) => tell_cycle(alloc, name, err),
+        Refusal::SpaceFaulty(fault) => tell_space(alloc, fault, err),
+        Refusal::BreadthFaulty(fault) => tell_breadth(alloc, fault, err),
+        Refusal::Stopped(line) => write_text(err, line.as_str(), 4),
         Refusal::Unbuilt => write_text(err, "swiss: Unbuilt\n", 3),
         Refusal::ReadFault => write_text(err, "swiss: read fault\n", 5),
         Refusal::NoMemory => write_text(err, "swiss: out of memory\n", 7),

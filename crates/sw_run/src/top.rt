@@ -11,8 +11,9 @@ use std::thread::Threads;
 use sw_edge::{Gate, Sink, Source};
 
 /// What the program ends with: 0 for `safe`, 10 for `open`, 11 for `violated`, 2 for words that
-/// are no command, 3 for an input that is refused or a command that is not served, 5 for a failed
-/// read, 6 for a failed write and 7 for want of memory.
+/// are no command, 3 for an input or a template that is refused or a command that is not served, 4
+/// for a search that a query ended, 5 for a failed read, 6 for a failed write and 7 for want of
+/// memory.
 pub type Status = u8;
 
 /// Runs the command that the words name, which are given without the program's name: reads the
@@ -35,12 +36,11 @@ pub fn run<H: Threads + Wait + Sync, S: Source, O: Sink, E: Sink, G: Gate + Sync
         (change (E.held err.old) (E.held err.new) (E.faults err.old) (E.faults err.new))
         result }
 {
-    let _ = rt;
-    let told = answer(alloc, words.as_slice(), source, gate);
+    let told = answer(rt, alloc, words.as_slice(), source, gate);
     tell(alloc, &told, out, err)
 }
 
-/// Runs `space`, `print` and `check`, of which only `print` is served yet, and answers other words
+/// Runs `space`, `print` and `check`, of which `check` is not served yet, and answers other words
 /// with the usage line. It needs no threads and does not wait.
 pub fn run_check<S: Source, O: Sink, E: Sink>(
     alloc: Global,

@@ -1,15 +1,11 @@
 -- In a signature that is declared rightly arguments are of sorts that there are.
-use Rattle.std.specs.Prelude.{◌≡◌, ℕ, ◌<◌, ◌==◌, nat_lt, true, List, [], ◌∷◌, length}
+use Rattle.std.specs.Prelude.{◌≡◌, ◌<◌, nat_lt, true, length}
 use Rattle.std.specs.List.{AllByRecursion, list_all}
-use Rattle.std.proofs.Common.{arith, refl}
-use Rattle.std.proofs.lemmas.Bool.{and_parts, ltb-true, eqb-true}
+use Rattle.std.proofs.lemmas.Bool.{and_parts, ltb-true}
 use Rattle.sw_lists.proofs.Each.{each-weaker}
 use Rattle.sw_lists.proofs.Tests.{each_true}
-use Rattle.sw_logic.specs.declared.syntax.SymbolKind.{SymbolKind}
-use Rattle.sw_logic.specs.declared.syntax.SymbolKind.TheVariants.{Relation, Constant, Function}
 use Rattle.sw_logic.specs.declared.syntax.Symbol.{Symbol}
 use Rattle.sw_logic.specs.declared.syntax.Signature.{Signature}
-use Rattle.sw_logic.specs.Sorted.{gives_value}
 use Rattle.sw_logic.specs.Signatures.{is_of_kind, is_symbol, is_signature}
 use Rattle.sw_template.specs.Listing.{HaveArguments}
 

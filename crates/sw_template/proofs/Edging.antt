@@ -1,5 +1,5 @@
 -- The edges of a template are between sorts that there are.
-use Rattle.std.specs.Prelude.{◌≡◌, ℕ, ◌<◌, Bool, true, false, not, cond, List, [], ◌∷◌, map}
+use Rattle.std.specs.Prelude.{ℕ, ◌<◌, Bool, true, false, not, cond, List, [], ◌∷◌, map}
 use Rattle.std.specs.List.{AllByRecursion, filter}
 use Rattle.sw_lists.proofs.Each.{each-append}
 use Rattle.sw_logic.specs.declared.syntax.Edge.{Edge}

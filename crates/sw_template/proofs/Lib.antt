@@ -7,3 +7,4 @@ pub mod Termed
 pub mod Counting
 pub mod Declared
 pub mod Edging
+mod Made

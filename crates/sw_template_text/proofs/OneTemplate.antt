@@ -5,7 +5,7 @@ use Rattle.std.proofs.Common.{refl, arith, sym, ap, subst, ◌∙◌, append_ass
 use Rattle.std.proofs.lemmas.Bool.{cases_order, cases_lt}
 use Rattle.std.proofs.lemmas.Option.{same_Some, none-some}
 use Rattle.sw_scan.specs.declared.Token.{Token}
-use Rattle.sw_scan.specs.Scans.{OneScan}
+use Rattle.sw_scan.proofs.Unique.{one_scan}
 use Rattle.sw_logic.specs.declared.syntax.Signature.{Signature}
 use Rattle.sw_meaning.specs.declared.template.Run.{Run}
 use Rattle.sw_meaning.specs.declared.template.Template.{Template}
@@ -126,43 +126,43 @@ module _ (sig : Signature) (text : List ℕ) where
 
   -- ---- the text
 
-  one_answer : OneScan → (r s : Result Template TemplateError) → HasTemplate sig text r → HasTemplate sig text s → r ≡ s
-  one_answer one r s (HasTemplate.bad_byte at cut e) (HasTemplate.bad_byte at' cut' f) =
-      let same : ◌≡◌ {A = Result (List Token) ℕ} (Err at) (Err at') = one text 0 (Err at) (Err at') cut cut' in
+  one_answer : (r s : Result Template TemplateError) → HasTemplate sig text r → HasTemplate sig text s → r ≡ s
+  one_answer r s (HasTemplate.bad_byte at cut e) (HasTemplate.bad_byte at' cut' f) =
+      let same : ◌≡◌ {A = Result (List Token) ℕ} (Err at) (Err at') = one_scan text 0 (Err at) (Err at') cut cut' in
       let place_is : at ≡ at' = cc in e ∙ (ap (λ n. Err (TemplateError.BadByte n)) place_is ∙ sym f)
-  one_answer one r s (HasTemplate.bad_byte at cut e) (HasTemplate.misspelled tokens k cut' fault f) = let bad : ◌≡◌ {A = Result (List Token) ℕ} (Err at) (Ok tokens) = one text 0 (Err at) (Ok tokens) cut cut' in absurd cc
-  one_answer one r s (HasTemplate.bad_byte at cut e) (HasTemplate.spelled tokens runs n cut' spells f) = let bad : ◌≡◌ {A = Result (List Token) ℕ} (Err at) (Ok tokens) = one text 0 (Err at) (Ok tokens) cut cut' in absurd cc
-  one_answer one r s (HasTemplate.misspelled tokens k cut fault e) (HasTemplate.bad_byte at cut' f) = let bad : ◌≡◌ {A = Result (List Token) ℕ} (Err at) (Ok tokens) = one text 0 (Err at) (Ok tokens) cut' cut in absurd cc
-  one_answer one r s (HasTemplate.misspelled tokens k cut fault e) (HasTemplate.misspelled others m cut' fault' f) =
-      let same : others ≡ tokens = same_tokens others tokens (one text 0 (Ok others) (Ok tokens) cut' cut) in
+  one_answer r s (HasTemplate.bad_byte at cut e) (HasTemplate.misspelled tokens k cut' fault f) = let bad : ◌≡◌ {A = Result (List Token) ℕ} (Err at) (Ok tokens) = one_scan text 0 (Err at) (Ok tokens) cut cut' in absurd cc
+  one_answer r s (HasTemplate.bad_byte at cut e) (HasTemplate.spelled tokens runs n cut' spells f) = let bad : ◌≡◌ {A = Result (List Token) ℕ} (Err at) (Ok tokens) = one_scan text 0 (Err at) (Ok tokens) cut cut' in absurd cc
+  one_answer r s (HasTemplate.misspelled tokens k cut fault e) (HasTemplate.bad_byte at cut' f) = let bad : ◌≡◌ {A = Result (List Token) ℕ} (Err at) (Ok tokens) = one_scan text 0 (Err at) (Ok tokens) cut' cut in absurd cc
+  one_answer r s (HasTemplate.misspelled tokens k cut fault e) (HasTemplate.misspelled others m cut' fault' f) =
+      let same : others ≡ tokens = same_tokens others tokens (one_scan text 0 (Ok others) (Ok tokens) cut' cut) in
       let number : k ≡ m = one_fault (words_of text tokens) k m fault (subst (λ ts. IsFault (words_of text ts) m) same fault') in
       e ∙ (ap (λ n. Err (TemplateError.Syntax (place text (slice_get tokens n)))) number ∙ (ap (λ ts. Err (TemplateError.Syntax (place text (slice_get ts m)))) (sym same) ∙ sym f))
     where
       same_tokens : (ts us : List Token) → ◌≡◌ {A = Result (List Token) ℕ} (Ok ts) (Ok us) → ts ≡ us
       same_tokens ts us e = cc
-  one_answer one r s (HasTemplate.misspelled tokens k cut fault e) (HasTemplate.spelled others runs n cut' spells f) =
-      let same : others ≡ tokens = same_tokens others tokens (one text 0 (Ok others) (Ok tokens) cut' cut) in
+  one_answer r s (HasTemplate.misspelled tokens k cut fault e) (HasTemplate.spelled others runs n cut' spells f) =
+      let same : others ≡ tokens = same_tokens others tokens (one_scan text 0 (Ok others) (Ok tokens) cut' cut) in
       absurd (no_template (words_of text tokens) k runs n fault (subst (λ ts. Spells (words_of text ts) runs n) same spells))
     where
       same_tokens : (ts us : List Token) → ◌≡◌ {A = Result (List Token) ℕ} (Ok ts) (Ok us) → ts ≡ us
       same_tokens ts us e = cc
-  one_answer one r s (HasTemplate.spelled tokens runs n cut spells e) (HasTemplate.bad_byte at cut' f) = let bad : ◌≡◌ {A = Result (List Token) ℕ} (Err at) (Ok tokens) = one text 0 (Err at) (Ok tokens) cut' cut in absurd cc
-  one_answer one r s (HasTemplate.spelled tokens runs n cut spells e) (HasTemplate.misspelled others k cut' fault f) =
-      let same : others ≡ tokens = same_tokens others tokens (one text 0 (Ok others) (Ok tokens) cut' cut) in
+  one_answer r s (HasTemplate.spelled tokens runs n cut spells e) (HasTemplate.bad_byte at cut' f) = let bad : ◌≡◌ {A = Result (List Token) ℕ} (Err at) (Ok tokens) = one_scan text 0 (Err at) (Ok tokens) cut' cut in absurd cc
+  one_answer r s (HasTemplate.spelled tokens runs n cut spells e) (HasTemplate.misspelled others k cut' fault f) =
+      let same : others ≡ tokens = same_tokens others tokens (one_scan text 0 (Ok others) (Ok tokens) cut' cut) in
       absurd (no_template (words_of text tokens) k runs n (subst (λ ts. IsFault (words_of text ts) k) same fault) spells)
     where
       same_tokens : (ts us : List Token) → ◌≡◌ {A = Result (List Token) ℕ} (Ok ts) (Ok us) → ts ≡ us
       same_tokens ts us e = cc
-  one_answer one r s (HasTemplate.spelled tokens runs n cut spells e) (HasTemplate.spelled others more m cut' spells' f) =
-      let same : others ≡ tokens = same_tokens others tokens (one text 0 (Ok others) (Ok tokens) cut' cut) in
+  one_answer r s (HasTemplate.spelled tokens runs n cut spells e) (HasTemplate.spelled others more m cut' spells' f) =
+      let same : others ≡ tokens = same_tokens others tokens (one_scan text 0 (Ok others) (Ok tokens) cut' cut) in
       let both = one_spelling (words_of text tokens) more runs m n (subst (λ ts. Spells (words_of text ts) more m) same spells') spells in
       one_resolved runs n r s e (subst (λ k. Resolves sig text runs k s) both.1 (subst (λ rs. Resolves sig text rs m s) both.0 f))
     where
       same_tokens : (ts us : List Token) → ◌≡◌ {A = Result (List Token) ℕ} (Ok ts) (Ok us) → ts ≡ us
       same_tokens ts us e = cc
 
-pub one_template : OneScan → OneTemplate
-one_template one sig text r s a b = one_answer sig text one r s a b
+pub one_template : OneTemplate
+one_template sig text r s a b = one_answer sig text r s a b
 
 -- ---- the bounds
 

@@ -21,6 +21,8 @@ mod running;
 #[cfg(test)]
 mod runs;
 #[cfg(test)]
+mod spaces;
+#[cfg(test)]
 mod structures;
 #[cfg(test)]
 mod truths;

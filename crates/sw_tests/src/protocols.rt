@@ -9,7 +9,7 @@ const RING_LINES: &str =
     "sort node;\nsort place;\nimmutable relation le(node, node);\nimmutable function at(node): place;\nimmutable constant first: node;\nmutable relation holds(node);\naxiom forall X: node, Y: node. (le(X, Y) & le(Y, X)) -> X = Y;\ninit forall N: node. holds(N) <-> N = first;\ntransition pass(a: node, b: node) modifies holds: holds(a) & at(b) != at(a) & (forall N: node. holds'(N) <-> N = b);\nsafety forall A: node, B: node. (holds(A) & holds(B)) -> at(A) = at(B);\n";
 
 // Each declaration stands on a line of its own.
-static PRINTED: [(&str, &str); 11] = [
+static PRINTED: [(&str, &str); 13] = [
     (
         "mutable relation x; mutable relation y; init !x & !y; transition t modifies x: y & x'; safety !x;",
         "mutable relation x;\nmutable relation y;\ninit !x & !y;\ntransition t modifies x: y & x';\nsafety !x;\n",
@@ -34,6 +34,15 @@ static PRINTED: [(&str, &str); 11] = [
         "sort s;\nmutable relation a(s);\nmutable relation b;\ntransition t(X: s, Y: s) modifies a, b: a'(X) & a(Y);\n",
     ),
     ("transition t: true;", "transition t: true;\n"),
+    // functions and quantifiers that lead from sort to sort, but to none again
+    (
+        "sort node; sort value; immutable function g(value): node;",
+        "sort node;\nsort value;\nimmutable function g(value): node;\n",
+    ),
+    (
+        "sort n; mutable relation p(n, n); transition t(x: n): exists Y: n. forall Z: n. p(x, Y) & p(Z, Y);",
+        "sort n;\nmutable relation p(n, n);\ntransition t(x: n): exists Y: n. forall Z: n. p(x, Y) & p(Z, Y);\n",
+    ),
     // other blanks, brackets and comments
     (
         "sort node;sort place;immutable relation le(node,node);immutable function at(node):place;immutable constant first:node; # the ring\nmutable relation holds(node);axiom forall X:node,Y:node.le(X,Y)&le(Y,X)->X=Y;init forall N:node.(holds(N)<->N=first);transition pass(a:node,b:node)modifies holds:holds(a)&!(at(b)=at(a))&(forall N:node.holds'(N)<->N=b);safety (forall A:node,B:node.((holds(A)&holds(B))->at(A)=at(B)));",
@@ -44,7 +53,7 @@ static PRINTED: [(&str, &str); 11] = [
 ];
 
 // The first fault of the text stands at its place.
-static REFUSED: [(&str, &str); 40] = [
+static REFUSED: [(&str, &str); 43] = [
     ("a $", "BadByte at 2"),
     ("sort ; $", "BadByte at 7"),
     // a word that no protocol can have there
@@ -103,6 +112,18 @@ static REFUSED: [(&str, &str); 40] = [
     (
         "sort a; mutable relation p(a, a); safety exists X: a. forall Y: a. p(X, Y);",
         "NotStratified a",
+    ),
+    (
+        "sort n; axiom forall X: n. exists Y: n. X = Y;",
+        "NotStratified n",
+    ),
+    (
+        "sort n; sort m; mutable relation p(n, m); init !(exists X: m. forall Y: n. p(Y, X)); axiom forall X: n. exists Y: m. Y = Y & X = X;",
+        "NotStratified n",
+    ),
+    (
+        "sort n; mutable relation p(n, n); transition t(x: n): (exists Y: n. p(x, Y)) <-> (forall Y: n. exists Z: n. p(Y, Z));",
+        "NotStratified n",
     ),
     // the numbers of arguments and their sorts
     ("sort n; mutable relation p(n); init p;", "Arity at 36"),

@@ -119,13 +119,13 @@ static UNREAD: [(&str, u8, &str); 15] = [
     ("synth|--breadth|literals 2|more", 2, USAGE),
     ("certify", 3, "swiss: Unbuilt\n"),
     ("certify|--breadth|literals 2", 3, "swiss: Unbuilt\n"),
-    ("space|literals 2", 3, "swiss: Unbuilt\n"),
     ("check", 3, "swiss: Unbuilt\n"),
     ("drill|6", 3, "swiss: Unbuilt\n"),
     ("synth|--finish|literals 1", 3, "swiss: Unbuilt\n"),
     ("synth|--conflicts|1", 3, "swiss: Unbuilt\n"),
     ("synth|--workers|2", 3, "swiss: Unbuilt\n"),
-    // and one that does read
+    // and two that do read
+    ("space|literals 2", 5, "swiss: read fault\n"),
     ("synth", 5, "swiss: read fault\n"),
 ];
 
@@ -137,7 +137,7 @@ static CHECK_UNREAD: [(&str, u8, &str); 8] = [
     ("synth", 2, USAGE),
     ("drill|6", 2, USAGE),
     ("check", 3, "swiss: Unbuilt\n"),
-    ("space|literals 2", 3, "swiss: Unbuilt\n"),
+    ("space|literals 2", 5, "swiss: read fault\n"),
     ("print", 5, "swiss: read fault\n"),
 ];
 

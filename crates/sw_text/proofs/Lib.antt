@@ -5,3 +5,4 @@ pub mod WellSorted
 pub mod FewVariables
 pub mod OneFormula
 pub mod Numbered
+pub mod Placing

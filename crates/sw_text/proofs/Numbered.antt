@@ -1,7 +1,7 @@
 -- Variables that are numbered and symbols that may change, one more at a time.
 use Rattle.std.specs.Prelude.{◌≡◌, ℕ, ◌+◌, ◌<◌, List, [], ◌∷◌, ◌++◌, length, take, codes}
 use Rattle.std.specs.Fmt.{decimal}
-use Rattle.std.proofs.Common.{refl, sym, ap, arith, ◌∙◌, get_or, append-nil, append_assoc}
+use Rattle.std.proofs.Common.{sym, ap, arith, ◌∙◌, get_or, append-nil, append_assoc}
 use Rattle.std.proofs.lemmas.List.{take_more, length-take-le}
 use Rattle.sw_logic.specs.declared.syntax.Symbol.{Symbol}
 use Rattle.sw_logic.specs.declared.syntax.Binder.{Binder}

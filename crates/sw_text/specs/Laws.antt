@@ -1,5 +1,5 @@
 -- Laws about what is read.
-use Rattle.std.specs.Prelude.{◌≡◌, ◌+◌, ◌≤◌, List, [], length, map, true, Ok}
+use Rattle.std.specs.Prelude.{◌≡◌, ◌+◌, ◌≤◌, [], length, map, true, Ok}
 use Rattle.sw_logic.specs.declared.syntax.Binder.{Binder}
 use Rattle.sw_logic.specs.declared.syntax.Formula.{Formula}
 use Rattle.sw_logic.specs.declared.variables.TheConstants.{VARIABLES}

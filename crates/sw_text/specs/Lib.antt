@@ -3,3 +3,4 @@ pub mod Resolving
 pub mod Texts
 pub mod Scoped
 pub mod Laws
+pub mod Tables

@@ -5,7 +5,8 @@ ghost use Rattle.sw_text.specs.declared.names.Wanted.TheVariants as wanted;
 ghost use Rattle.sw_text.specs.Names.{term_faults, term_read, atom_read, atom_by, right_wanted, head_of, is_declared, binder_faults, binders_faults, bound, quantified, faults, formula_read, variable_number, is_some_number};
 ghost use Rattle.sw_text.specs.Resolving.{around, Finds, FindsIn, applied_faults, equal_faults, all_faults, all_read, body_faults, body_read, BindsTo};
 
-use crate::names::{Head, Names, Rule, Violation, Wanted, variable_place};
+use crate::lookup::variable_place;
+use crate::names::{Head, Names, Rule, Violation, Wanted};
 use crate::resolve::Resolved;
 use sqlite_items::{Boxed, Items};
 use std::alloc::{AllocError, Global};

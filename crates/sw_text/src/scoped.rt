@@ -7,12 +7,15 @@ ghost use Rattle.sw_text.specs.declared.texts.TextError.{TextError};
 ghost use Rattle.sw_text.specs.Texts.{HasFormula, answer_of};
 ghost use Rattle.sw_text.specs.Scoped.{variables_of, listed_by, mutable_from, place_by, in_scope};
 
-use crate::names::{Names, Place, number_of};
+use crate::lookup::number_of;
+use crate::names::{Names, Place};
+use crate::tables::Tables;
 use crate::texts::{TextError, read_named};
 use sqlite_items::Items;
 use std::alloc::{AllocError, Global};
 use sw_logic::{Binder, Formula, Name, Scope, Signature, Symbol};
 use sw_print::print_named;
+use sw_table::Table;
 
 /// The name of the variable of this number, from 0.
 fn name_of(alloc: Global, number: usize) -> Result<Name, AllocError>
@@ -87,10 +90,14 @@ pub fn read_formula(
     let Ok(variables) = variables_of(alloc, scope) else {
         return Err(TextError::Memory);
     };
+    let Ok(tables) = Tables::of(alloc, signature) else {
+        return Err(TextError::Memory);
+    };
     let names = Names {
         text,
         signature,
-        declared_too: &[],
+        tables: &tables,
+        declared_too: &Table::new(alloc),
         place: &place,
     };
     read_named(alloc, &names, variables)

@@ -17,3 +17,6 @@ returns-in-Err-Cycle-clause-fault c =
     cycle_told c.args.bytes.now c.in_ok-protocol.protocol c.in-Err-Cycle.sort c.not_stratified.result c.in_ok-protocol.ensures.has
     (cycle_first c.in_ok-protocol.protocol _ c.in-Err-Cycle.field-0 _ _ c.new-extra.ensures c.in-Err-Cycle.ensures c.in-Err-Cycle.field-0-is c.in-Err-Cycle.sort-is)
     c.not_stratified.ensures
+
+pub returns-in-Ok-clause-well_formed : goal.returns-in-Ok-clause-well_formed
+returns-in-Ok-clause-well_formed c = c.declared_is_well_formed.ensures c.args.bytes.now c.in_ok-protocol.protocol c.in_ok-protocol.ensures.has

@@ -1,0 +1,8 @@
+use Rattle.sw_run.proofs.Rows.{space_row, not_read, was_read}
+use Rattle.sw_run.proofs.answer.space.Goals as goal
+
+pub returns-in_err-protocol : goal.returns-in_err-protocol
+returns-in_err-protocol g c = space_row c.args.text.now _ _ (not_read _ _ c.in_err-protocol.field-0.0 c.from_residual.result c.from_residual.ensures.1 c.in_err-protocol.ensures.misread)
+
+pub returns : goal.returns
+returns g c = space_row c.args.text.now _ _ (was_read _ _ c.in_ok-protocol.protocol c.size_of.result c.in_ok-protocol.ensures.spelled (rw c.as_str.ensures at c.size_of.ensures))

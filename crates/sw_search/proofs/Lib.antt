@@ -1,0 +1,4 @@
+pub mod OneReport
+pub mod Lists
+pub mod Searchable
+pub mod Breadth

@@ -1,0 +1,2 @@
+pub mod OneSpace
+pub mod Fitting

@@ -1,0 +1,3 @@
+mod Safety
+mod Answers
+mod OneJudgement
