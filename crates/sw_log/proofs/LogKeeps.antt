@@ -12,7 +12,7 @@ use Rattle.std.proofs.lemmas.Bool.Decides.{nat_tests}
 use Rattle.sw_log.specs.declared.entry.Entry.{Entry}
 use Rattle.sw_log.specs.declared.rule.LogView.{LogView}
 use Rattle.sw_log.specs.LogRule.{Held, total, weight, live_count, hold_count, times_at, once_below, Placed, StandIn, HoldsEach, opened, fresh, spent, Fits, CountsOut, Logged, Kept}
-use Rattle.sw_log.specs.LogSteps.{Knows, IsAlone, IsIdle, HasList, holding, freed, taken, Finds, Took, Stored, Freed, Measured, compared, given, longer_of, shorter_of, merged}
+use Rattle.sw_log.specs.LogSteps.{Knows, IsAlone, IsIdle, HasList, holding, freed, appended, Finds, Took, Stored, Freed, Measured, compared, given, longer_of, shorter_of, merged}
 use Rattle.atomic_table.specs.Table.{State, step, keeps, takes, gives, stepped, opening, Allows, Splits, Joins}
 use Rattle.atomic_table.proofs.Lists.{at_set, at_snoc, at_last, set_else, set_here}
 use Rattle.sw_log.proofs.Totals.{total-set, total-snoc, part-le, two-le, once-more, lone, each_set, each_snoc}
@@ -231,8 +231,8 @@ one_stands : (e : Entry) (xs : List Entry) → get_elem? xs e.under ≡ some e �
 one_stands e xs there zero x at = subst (λ (y : Entry). get_elem? xs y.under ≡ some y) (some-injective e x at) there
 one_stands e xs there (suc k) x at = absurd (some-ne-none x (sym at))
 
-fits_taken : (log : List Entry) (v : V) (e : Entry) → v.live ≡ true → v.seen ≡ log → e.under ≡ length v.seen → Fits log v → Fits (log ++ e ∷ []) (taken v e)
-fits_taken log v e live here place f = let all : List Entry = v.seen ++ e ∷ [] in record {
+fits_appended : (log : List Entry) (v : V) (e : Entry) → v.live ≡ true → v.seen ≡ log → e.under ≡ length v.seen → Fits log v → Fits (log ++ e ∷ []) (appended v e)
+fits_appended log v e live here place f = let all : List Entry = v.seen ++ e ∷ [] in record {
   gone = λ h. absurd (true_not_false v.live live h);
   seen = subst (λ (xs : List Entry). IsPrefix all (xs ++ e ∷ [])) here (begins_itself all);
   shorter = begins_through v.shorter v.seen all f.shorter (begins_longer v.seen (e ∷ []));
@@ -241,10 +241,10 @@ fits_taken log v e live here place f = let all : List Entry = v.seen ++ e ∷ []
   splitter = f.splitter;
 }
 
-entry_taken : (log : List Entry) (turn : ℕ) (vs : List V) (id : ℕ) (v : V) (e : Entry) → Logged log turn vs → get_elem? vs id ≡ some v → v.live ≡ true → v.holds ≡ true → e.under ≡ length v.seen → e.under + 1 < 2 ^ 32 → Logged (log ++ e ∷ []) turn (set vs id (taken v e))
-entry_taken log turn vs id v e r at live holds place small = let here : v.seen ≡ log = (r.each id v at).holder holds in let last : e.under ≡ length log = place ∙ ap (λ (xs : List Entry). length xs) here in
+entry_appended : (log : List Entry) (turn : ℕ) (vs : List V) (id : ℕ) (v : V) (e : Entry) → Logged log turn vs → get_elem? vs id ≡ some v → v.live ≡ true → v.holds ≡ true → e.under ≡ length v.seen → e.under + 1 < 2 ^ 32 → Logged (log ++ e ∷ []) turn (set vs id (appended v e))
+entry_appended log turn vs id v e r at live holds place small = let here : v.seen ≡ log = (r.each id v at).holder holds in let last : e.under ≡ length log = place ∙ ap (λ (xs : List Entry). length xs) here in
     let len : length (log ++ e ∷ []) ≡ length log + 1 = length-append log (e ∷ []) in
-    changed log (log ++ e ∷ []) turn turn vs id v (taken v e) r at record {
+    changed log (log ++ e ∷ []) turn turn vs id v (appended v e) r at record {
       live = refl;
       first = refl;
       out = refl;
@@ -256,14 +256,14 @@ entry_taken log turn vs id v e r at live holds place small = let here : v.seen �
       holders = omega arith;
       once = λ i. let a = times-append i v.own (e ∷ []) in let m = once-more i (length log) in let n : once_below i (length (log ++ e ∷ [])) ≡ once_below i (length log + 1) = ap (once_below i) len in
           let t : here_at i e.under ≡ here_at i (length log) = ap (here_at i) last in omega (arith, a, m, n, t);
-      fits = fits_taken log v e live here place (r.each id v at);
+      fits = fits_appended log v e live here place (r.each id v at);
     }
 
 -- the view after the store, by the list of the slot
 abbrev stored : V → List Entry → V
 stored v xs = record v { seen = xs; own = v.own ++ drop (length v.seen) xs }
 
-stored_is : (v : V) (xs : List Entry) (e : Entry) → xs ≡ v.seen ++ e ∷ [] → stored v xs ≡ taken v e
+stored_is : (v : V) (xs : List Entry) (e : Entry) → xs ≡ v.seen ++ e ∷ [] → stored v xs ≡ appended v e
 stored_is v xs e is = let q : drop (length v.seen) xs ≡ e ∷ [] = ap (drop (length v.seen)) is ∙ drop-append_seam v.seen (e ∷ []) in λ i. record v { seen = is i; own = v.own ++ q i }
 
 stores_held : (slots id : ℕ) (v : V) (list : Held) (e : Entry) (n : ℕ) → v.holds ≡ true → list.items ≡ v.seen ++ e ∷ [] → e.under ≡ length v.seen → n ≡ e.under + 1 → n < 2 ^ 32
@@ -274,7 +274,7 @@ stores_held slots id v list e n holds is place n_is small s k _ at _ = let x : �
       keeps,
       tt,
       subst (λ (w : V). Kept (stepped s 1 n id ((0, list) ∷ []) w keeps)) (sym (stored_is v list.items e is))
-          (length_stepped s k n id (taken v e) (k.log ++ e ∷ []) (omega (arith, n_is, last, len)) (λ none. absurd (omega (arith, none, one))) (entry_taken k.log x s.views id v e r at live holds place (omega (arith, n_is, small)))),
+          (length_stepped s k n id (appended v e) (k.log ++ e ∷ []) (omega (arith, n_is, last, len)) (λ none. absurd (omega (arith, none, one))) (entry_appended k.log x s.views id v e r at live holds place (omega (arith, n_is, small)))),
       refl,
     )
 

@@ -106,6 +106,3 @@ placed_from n (y ∷ ys) x placed last (suc k) e at = placed_from (n + 1) ys x (
 
 pub placed_more : (xs : List Entry) (x : Entry) → Placed xs → x.under ≡ length xs → Placed (xs ++ x ∷ [])
 placed_more xs x placed last k e at = placed_from 0 xs x (λ j u h. placed j u h ∙ omega arith) (last ∙ omega arith) k e at ∙ omega arith
-
-pub placed_start : (xs ys : List Entry) → IsPrefix xs ys → Placed ys → Placed xs
-placed_start xs ys p placed k e at = placed k e (at_begun xs ys k e p at)

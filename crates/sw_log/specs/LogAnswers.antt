@@ -4,7 +4,7 @@ use Rattle.sw_log.specs.declared.entry.Entry.{Entry}
 use Rattle.sw_log.specs.declared.rule.LogView.{LogView}
 use Rattle.sw_log.specs.declared.seats.Appended.{Appended}
 use Rattle.sw_log.specs.declared.seats.Appended.TheVariants.{Done, Behind, Memory}
-use Rattle.sw_log.specs.LogSteps.{Finds, taken}
+use Rattle.sw_log.specs.LogSteps.{Finds, appended}
 
 -- the whole log was seen, which begins with what the seat had seen
 pub record Sees (v : LogView) (log : List Entry) (w : LogView) : Type 0 where
@@ -16,7 +16,7 @@ pub record AppendsLast (v : LogView) (e : Entry) (w : LogView) : Type 0 where
   pub log : List Entry
   pub finds : Finds v log
   pub place : e.under ≡ length log
-  pub last : w ≡ taken (record v { seen = log }) e
+  pub last : w ≡ appended (record v { seen = log }) e
 
 -- the log was longer than the entry says, and is told
 pub record IsBehind (v : LogView) (e : Entry) (log : List Entry) (w : LogView) : Type 0 where

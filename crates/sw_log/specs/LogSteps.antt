@@ -64,8 +64,8 @@ abbrev pub Stored : Step Held → Knows → ℕ → Knows → Type 0
 Stored st m n m' = m' ≡ (record m.0 { seen = held m.1; own = m.0.own ++ drop (length m.0.seen) (held m.1) }, m.1)
 
 -- one entry more, which is the seat's own
-abbrev pub taken : LogView → Entry → LogView
-taken v e = record v { seen = v.seen ++ e ∷ []; own = v.own ++ e ∷ [] }
+abbrev pub appended : LogView → Entry → LogView
+appended v e = record v { seen = v.seen ++ e ∷ []; own = v.own ++ e ∷ [] }
 
 abbrev pub Freed : Step Held → Knows → ℕ → Knows → Type 0
 Freed st m n m' = m' ≡ (freed m.0, [])

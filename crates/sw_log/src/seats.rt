@@ -2,7 +2,7 @@
 ghost use Rattle.std.specs.Prelude.{◌≡◌, ℕ, ◌-◌, ◌≤◌, ◌<◌, ◌+◌, ◌^◌, ◌↔◌, true, false, [], ◌∷◌, ◌++◌, length, IfOk, IfErr, IsNone, IfSome, IfNone};
 ghost use mathlib.Core.List.{IsPrefix};
 ghost use Rattle.sw_log.specs.LogRule.{opened, fresh, Placed, HoldsEach};
-ghost use Rattle.sw_log.specs.LogSteps.{given, taken, freed, joined, longer_of, shorter_of, IsAlone, IsIdle, HasSlot, HasList, Takes, SeesLength};
+ghost use Rattle.sw_log.specs.LogSteps.{given, appended, freed, joined, longer_of, shorter_of, IsAlone, IsIdle, HasSlot, HasList, Takes, SeesLength};
 ghost use Rattle.sw_log.specs.LogAnswers.{Sees, Appends};
 
 use crate::entry::{Entry, copy_entries};
@@ -196,7 +196,7 @@ impl SharedLog {
         requires list { list.items ≡ seat.old.me.0.seen }
         requires last { length list.items ≡ entry.under }
         ensures table { seat.new.table_id ≡ seat.old.table_id }
-        ensures done { IfOk result (λ _. seat.new.me ≡ (freed (taken seat.old.me.0 entry), [])) }
+        ensures done { IfOk result (λ _. seat.new.me ≡ (freed (appended seat.old.me.0 entry), [])) }
         ensures memory { IfErr result (λ back. (back ≡ entry) × (seat.new.me ≡ (freed seat.old.me.0, []))) }
     {
         let mut longer = list;
