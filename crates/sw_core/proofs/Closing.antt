@@ -1,4 +1,5 @@
 -- What founded steps that end by Close leave.
+use Rattle.sw_lists.proofs.Places.{get_some}
 use Rattle.std.specs.Prelude.{◌≡◌, ℕ, ◌<◌, List, [], ◌++◌, length, take, drop, Some, slice_get, unwrap_or}
 use Rattle.std.specs.List.{AllByRecursion}
 use Rattle.std.proofs.Common.{arith, sym, subst, ◌∙◌}
@@ -19,7 +20,7 @@ use Rattle.sw_filter.specs.Good.{Good}
 use Rattle.sw_filter.proofs.Good.{good_stays, good_is_not_missed, good_does_not_join}
 use Rattle.sw_core.specs.Machine.{Search, Board, Part, IsDone, filters_at, formula_in, parts_in, start, run}
 use Rattle.sw_core.specs.Laws.{IsWellSettled, CloseMeansClosed, CloseMeansExhausted}
-use Rattle.sw_core.proofs.Lists.{each_got, got_each, got_within}
+use Rattle.sw_core.proofs.Lists.{each_got, got_each}
 use Rattle.sw_core.proofs.Keeps.{Stands, stands, finisher_keeps_log}
 
 -- the class is good under the list by some filters
@@ -50,7 +51,7 @@ all_good m s h done =
     of_part : (k : ℕ) (part : List (List ℕ)) → slice_get (parts_in m) k ≡ Some part → AllByRecursion (IsGood m s.log) part
     of_part k part at =
         let within : k < length (parts_in m) = slice_get_within (parts_in m) k part at in
-        let found : (p : Part) × (slice_get s.parts k ≡ Some p) = got_within s.parts k (omega (arith, within, h.count)) in
+        let found : (p : Part) × (slice_get s.parts k ≡ Some p) = get_some s.parts k (omega (arith, within, h.count)) in
         subst (λ o. AllByRecursion (IsGood m s.log) (unwrap_or o [])) at
         (part_good m s k found.0 h (got_each (IsDone m s.log s.filters) s.parts k found.0 done found.1) found.1)
 

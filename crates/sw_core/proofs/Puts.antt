@@ -1,4 +1,5 @@
 -- What the machine's code writes is what its steps do.
+use Rattle.sw_lists.proofs.Places.{get_some}
 use Rattle.std.specs.Prelude.{◌≡◌, ℕ, ◌+◌, ◌<◌, ◌≤◌, ◌^◌, List, [], ◌∷◌, ◌++◌, length, Option, Some, slice_get, slice_set, slice_index_or}
 use Rattle.std.proofs.Common.{refl, sym, ap, subst, ◌∙◌}
 use Rattle.std.proofs.lemmas.Option.{get_or_from_slice_get}
@@ -9,7 +10,6 @@ use Rattle.sw_core.specs.declared.part.Made.TheVariants as made
 use Rattle.sw_core.specs.Machine.{Search, Board, Part, changed, taken, settled_by, after, formula_in}
 use Rattle.sw_core.specs.States.{Machine, HasHolders, HasRoom}
 use Rattle.sw_template.specs.Bodies.{Class}
-use Rattle.sw_core.proofs.Lists.{got_within}
 use Rattle.sw_core.proofs.Places.{set_is_changed, set_by}
 
 same_holders : (hs ks : List ℕ) → made.Holders hs ≡ made.Holders ks → hs ≡ ks
@@ -18,7 +18,7 @@ same_holders hs ks e = cc
 put_is : (v : Machine) (k : ℕ) (f : Part → Part) (hs : List ℕ) (l : Option Settled) → k < length v.board.parts → HasHolders v (slice_get v.board.parts k) f → v.made ≡ made.Holders hs
     → ((x : Part) → slice_get v.board.parts k ≡ Some x → l ≡ (f x).last) → slice_set v.board.parts k (record { holders = hs; last = l }) ≡ changed k f v.board.parts
 put_is v k f hs l lt room is last =
-    let found : (x : Part) × (slice_get v.board.parts k ≡ Some x) = got_within v.board.parts k lt in
+    let found : (x : Part) × (slice_get v.board.parts k ≡ Some x) = get_some v.board.parts k lt in
     let made_are : v.made ≡ made.Holders ((f found.0).holders) = subst (λ o. HasHolders v o f) found.1 room in
     let same : hs ≡ (f found.0).holders = same_holders hs ((f found.0).holders) (sym is ∙ made_are) in
     let kept : l ≡ (f found.0).last = last found.0 found.1 in

@@ -1,8 +1,8 @@
 -- A round in which nothing is appended leaves only live settlements.
-use Rattle.std.specs.Prelude.{◌≡◌, ℕ, zero, suc, ◌+◌, ◌≤◌, List, [], ◌∷◌, ◌++◌, map, length, take, Some, slice_get}
+use Rattle.std.specs.Prelude.{◌≡◌, ℕ, zero, suc, ◌+◌, List, [], ◌∷◌, ◌++◌, map, length, Some, slice_get}
 use Rattle.std.specs.List.{AllByRecursion}
-use Rattle.std.proofs.Common.{refl, arith, sym, ap, subst, ◌∙◌, append_assoc, length-append}
-use Rattle.std.proofs.lemmas.List.{map-append, length-map}
+use Rattle.std.proofs.Common.{refl, sym, ap, subst, ◌∙◌, append_assoc, length-append}
+use Rattle.std.proofs.lemmas.List.{map-append, length-map, take_all}
 use Rattle.sw_logic.specs.declared.syntax.Formula.{Formula}
 use Rattle.sw_lists.proofs.Each.{each-append, each-map, each-weaker}
 use Rattle.sw_filter.specs.declared.filter.Filter.{Filter}
@@ -13,12 +13,6 @@ use Rattle.sw_core.specs.Machine.{Search, filters_at}
 use Rattle.sw_core.specs.Gathered.{Share, filters_of, kept_of, moved, settled_of, IsLiveBy, IsTimely, QuietRoundCloses}
 use Rattle.sw_core.proofs.Shares.{filters_at-shifted}
 
-take_past : {X : Type 0} (n : ℕ) (xs : List X) → length xs ≤ n → take n xs ≡ xs
-take_past zero [] h = refl
-take_past zero (x ∷ xs) h = absurd (omega arith)
-take_past (suc n) [] h = refl
-take_past (suc n) (x ∷ xs) h = ap (λ l. x ∷ l) (take_past n xs (omega arith))
-
 module _ (m : Search) (g : List Formula) (fs : List Filter) where
   abbrev Live : List Filter → Settled → Type 0
   Live all x = IsLiveBy m g all x
@@ -26,7 +20,7 @@ module _ (m : Search) (g : List Formula) (fs : List Filter) where
   moved_live : (before mine later : List Filter) (x : Settled) → IsTimely m (length g) g (fs ++ mine) x → Live (fs ++ (before ++ (mine ++ later))) (moved (length fs) (length before) x)
   moved_live before mine later x h =
       subst (AllByRecursion (IsLive m.protocol m.mode g)) (sym (filters_at-shifted fs before mine later x.by h.places))
-      (subst (λ l. AllByRecursion (IsLive m.protocol m.mode l) (filters_at (fs ++ mine) x.by)) (take_past x.under g h.since) h.live)
+      (subst (λ l. AllByRecursion (IsLive m.protocol m.mode l) (filters_at (fs ++ mine) x.by)) (take_all x.under g h.since) h.live)
 
   quiet : (before : List Filter) (shares : List Share) → ((i : ℕ) (share : Share) → slice_get shares i ≡ Some share → AllByRecursion (IsTimely m (length g) g (fs ++ filters_of share.kept)) share.settled)
       → AllByRecursion (Live (fs ++ (before ++ filters_of (kept_of shares)))) (settled_of (length fs) (length before) shares)

@@ -1,4 +1,5 @@
 -- The settlements of the workers' shares, with their places in the list of all filters.
+use Rattle.sw_lists.proofs.Places.{get_append_front}
 use Rattle.std.specs.Prelude.{◌≡◌, ℕ, zero, suc, ◌+◌, ◌-◌, ◌<◌, ◌≤◌, nat_lt, cond, List, [], ◌∷◌, ◌++◌, map, length, take, Some, slice_get, unwrap_or}
 use Rattle.std.specs.List.{AllByRecursion, flat_map, cons_option}
 use Rattle.std.proofs.Common.{refl, arith, sym, ap, subst, ◌∙◌, append_assoc, length-append, inl, inr}
@@ -15,7 +16,6 @@ use Rattle.sw_core.specs.Machine.{Search, AreBelow, filters_at, formula_in, part
 use Rattle.sw_core.specs.Founded.{Gains}
 use Rattle.sw_core.specs.Records.{times}
 use Rattle.sw_core.specs.Gathered.{Share, filters_of, formulas_of, kept_of, IsSettledBy, IsKeptBy, IsShare, AreFresh, shifted, moved, settled_of, ShareStays, EachGained}
-use Rattle.sw_core.proofs.Lists.{got_append}
 use Rattle.sw_core.proofs.Leads.{IsPublished}
 use Rattle.sw_core.proofs.Settling.{Settles, parts_of}
 
@@ -35,7 +35,7 @@ shifted_got : (fs before own later : List Filter) (k : ℕ) → k < length (fs +
 shifted_got fs before own later k h = elim (cases_lt k (length fs)) [
   | inl lt ↦
       ap (slice_get (fs ++ (before ++ (own ++ later)))) (shifted_below (length fs) (length before) k lt)
-      ∙ (got_append fs (before ++ (own ++ later)) k lt ∙ sym (got_append fs own k lt))
+      ∙ (get_append_front fs (before ++ (own ++ later)) k lt ∙ sym (get_append_front fs own k lt))
   | inr le ↦
       let size : length (fs ++ own) ≡ length fs + length own = length-append fs own in
       let j = place le in
@@ -43,7 +43,7 @@ shifted_got fs before own later k h = elim (cases_lt k (length fs)) [
       ap (slice_get (fs ++ (before ++ (own ++ later)))) (shifted_above (length fs) (length before) k le)
       ∙ (got_append_at fs (before ++ (own ++ later)) (length before + j.0) (k + length before) (omega (arith, j.1))
       ∙ (got_append_at before (own ++ later) j.0 (length before + j.0) refl
-      ∙ (got_append own later j.0 within ∙ sym (got_append_at fs own j.0 k j.1))))
+      ∙ (get_append_front own later j.0 within ∙ sym (got_append_at fs own j.0 k j.1))))
 ]
   where
     place : {a b : ℕ} → a ≤ b → (j : ℕ) × (b ≡ a + j)

@@ -9,7 +9,7 @@ use Rattle.std.proofs.lemmas.List.Sorted.{sum_by-IsPermutation}
 use Rattle.std.proofs.lemmas.List.Sums.{sum_by-cons}
 use Rattle.std.proofs.Common.{refl, arith, sym, ap, subst, ◌∙◌, inl, inr, append_assoc, append-nil}
 use Rattle.std.proofs.lemmas.Bool.{eq-eqb, ne_eqb, cases_lt, cond-true, cond-false, lt-ltb, le-ltb}
-use Rattle.std.proofs.lemmas.List.{map-append}
+use Rattle.std.proofs.lemmas.List.{map-append, take_all}
 use Rattle.sw_logic.specs.Truth.{greatest}
 use Rattle.sw_lists.proofs.Each.{each-append, each-weaker}
 use Rattle.sw_core.specs.declared.steps.Step.TheVariants as step
@@ -361,11 +361,5 @@ raw_next i drawn ns ms xs ys lt at same e grown =
     ∙ (ap (λ v. raw 0 (take i drawn) ++ map (λ n. pair n v) ns) k
     ∙ (raw_more 0 i drawn ns lt at ∙ ap (λ v. raw 0 (take v drawn)) j))))
 
-take_past : {X : Type 0} (n : ℕ) (xs : List X) → length xs ≤ n → take n xs ≡ xs
-take_past zero [] h = refl
-take_past zero (x ∷ xs) h = absurd (omega arith)
-take_past (suc n) [] h = refl
-take_past (suc n) (x ∷ xs) h = ap (λ l. x ∷ l) (take_past n xs (omega arith))
-
 pub raw_all : (n : ℕ) (drawn : List (List ℕ)) (xs : List Drawn) → length drawn ≤ n → xs ≡ raw 0 (take n drawn) → xs ≡ raw 0 drawn
-raw_all n drawn xs le e = e ∙ ap (raw 0) (take_past n drawn le)
+raw_all n drawn xs le e = e ∙ ap (raw 0) (take_all n drawn le)

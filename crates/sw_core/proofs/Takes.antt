@@ -22,9 +22,6 @@ pub record Goes (m : Search) (s : Board) (xs : List Step) (t : Board) (rest : Li
   pub to : AreAccepted m s xs → AreAccepted m t rest
   pub from : AreAccepted m t rest → AreAccepted m s xs
 
-pub goes_none : (m : Search) (s : Board) (xs rest : List Step) → rest ≡ xs → Goes m s xs s rest
-goes_none m s xs rest e = record { to = λ a. subst (AreAccepted m s) (sym e) a; from = λ a. subst (AreAccepted m s) e a }
-
 no_false : {P : Type 0} → false ≡ true → P
 no_false k = cc
 
@@ -47,9 +44,6 @@ goes_on m n s t u w xs rest more x b h e d c iff holds set =
       to = λ a. let left : AreAccepted m t (x ∷ more) = subst (AreAccepted m t) e (h.to a) in subst (λ z. AreAccepted m z more) (sym next) left.1;
       from = λ a. let later : AreAccepted m (after m t x) more = subst (λ z. AreAccepted m z more) next a in h.from (subst (AreAccepted m t) (sym e) (taken, later));
     }
-
-pub goes_end : (m : Search) (s t : Board) (xs rest : List Step) → Goes m s xs t rest → rest ≡ [] → IsTrue true ↔ AreAccepted m s xs
-goes_end m s t xs rest h e = (λ _. h.from (subst (AreAccepted m t) (sym e) tt), λ _. refl)
 
 -- whether all may be taken, told of the search, the state and the steps that these are
 pub goes_as : (r : Result Bool AllocError) (n m : Search) (s t : Board) (xs ys : List Step) → IfOk r (λ all. IsTrue all ↔ AreAccepted n s xs) → n ≡ m → s ≡ t → xs ≡ ys → IfOk r (λ all. IsTrue all ↔ AreAccepted m t ys)

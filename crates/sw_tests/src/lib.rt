@@ -17,6 +17,8 @@ mod protocols;
 #[cfg(test)]
 mod reading;
 #[cfg(test)]
+mod replays;
+#[cfg(test)]
 mod running;
 #[cfg(test)]
 mod runs;
