@@ -28,3 +28,5 @@ mod spaces;
 mod structures;
 #[cfg(test)]
 mod truths;
+#[cfg(test)]
+mod walks;
