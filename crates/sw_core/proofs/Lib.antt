@@ -16,4 +16,5 @@ pub mod Spells
 pub mod Again
 pub mod Sorting
 pub mod Quiet
+pub mod Fresh
 pub mod Narrow

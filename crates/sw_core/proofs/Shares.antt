@@ -8,7 +8,7 @@ use Rattle.std.proofs.lemmas.List.{map-append, length-map, take-append-le}
 use Rattle.sw_logic.specs.declared.syntax.Formula.{Formula}
 use Rattle.sw_lists.proofs.Each.{each-append, each-map, each-weaker, each-both}
 use Rattle.sw_filter.specs.declared.filter.Filter.{Filter}
-use Rattle.sw_filter.specs.Filters.{IsLive}
+use Rattle.sw_filter.specs.Filters.{IsLive, Refutes}
 use Rattle.sw_filter.specs.Good.{Good}
 use Rattle.sw_core.specs.declared.record.Kept.{Kept}
 use Rattle.sw_core.specs.declared.record.Settled.{Settled}
@@ -174,7 +174,9 @@ fresh_stays m worker seen more before [] a f = tt
 fresh_stays m worker seen more before (k ∷ ks) a f = (
   record {
     refutes = f.0.refutes;
-    first = λ e among live. f.0.first e among (subst (λ g. IsLive m.protocol m.mode g e.filter) (take-append-le k.under seen more a.0.under) live);
+    first =
+        let same : take k.under (seen ++ more) ≡ take k.under seen = take-append-le k.under seen more a.0.under in
+        subst (λ g. AllByRecursion (λ (e : Kept). e.worker ≡ k.worker → IsLive m.protocol m.mode g e.filter → Refutes m.protocol e.filter (formula_in m k.body.cubes) → ⊥) before) (sym same) f.0.first;
   },
   fresh_stays m worker seen more (before ++ k ∷ []) ks a.1 f.1,
 )

@@ -1,5 +1,5 @@
 -- What workers that were joined hand back of each round, and the record that is gathered of it.
-use Rattle.std.specs.Prelude.{◌≡◌, ℕ, ◌+◌, ◌<◌, ◌≤◌, nat_lt, List, [], ◌∷◌, ◌++◌, map, length, take, Some, slice_get, Contains, if◌then◌else◌}
+use Rattle.std.specs.Prelude.{◌≡◌, ℕ, ◌+◌, ◌<◌, ◌≤◌, nat_lt, List, [], ◌∷◌, ◌++◌, map, length, take, Some, slice_get, if◌then◌else◌}
 use Rattle.std.specs.List.{AllByRecursion, flat_map}
 use Rattle.sw_logic.specs.declared.syntax.Formula.{Formula}
 use Rattle.sw_filter.specs.declared.filter.Filter.{Filter}
@@ -56,10 +56,10 @@ pub record IsKeptBy (m : Search) (worker : ℕ) (log : List Formula) (k : Kept) 
   pub under : k.under ≤ length log
   pub live : IsLive m.protocol m.mode (take k.under log) k.filter
 
--- the filter refutes the class that it was found for, and no filter before it that is live under its prefix does
+-- the filter refutes the class that it was found for, and no filter of its worker before it that is live under its prefix does
 pub record IsFresh (m : Search) (log : List Formula) (before : List Kept) (k : Kept) : Type 0 where
   pub refutes : Refutes m.protocol k.filter (formula_in m k.body.cubes)
-  pub first : (e : Kept) → Contains before e → IsLive m.protocol m.mode (take k.under log) e.filter → Refutes m.protocol e.filter (formula_in m k.body.cubes) → ⊥
+  pub first : AllByRecursion (λ (e : Kept). e.worker ≡ k.worker → IsLive m.protocol m.mode (take k.under log) e.filter → Refutes m.protocol e.filter (formula_in m k.body.cubes) → ⊥) before
 
 -- each filter is fresh after those before it
 abbrev pub AreFresh : Search → List Formula → List Kept → List Kept → Type 0
@@ -140,6 +140,10 @@ abbrev pub EachGained : Type 0
 EachGained = (m : Search) (log : List Formula) (es : List Entry) →
     ((k : ℕ) (e : Entry) → slice_get es k ≡ Some e → (e.worker < m.workers) × Gains m (take (length log + k) (log ++ formulas_of m es)) (formula_in m e.body.cubes)) →
     AreGained m log es
+
+-- the filters that are kept in a whole round are fresh
+abbrev pub KeptAreFresh : Type 0
+KeptAreFresh = (m : Search) (log : List Formula) (filters : List Filter) (o : Outcome) → IsOutcome m log filters o → AreFresh m (log_after m log o) [] (kept_of o.shares)
 
 -- a part that is settled is settled again under a longer prefix where its filters are live under that
 abbrev pub SettledAgain : Type 0
