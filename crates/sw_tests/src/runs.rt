@@ -171,7 +171,12 @@ static REFUSED: [(&str, &str, u8, &str); 10] = [
     ),
     // the faults of the text come first
     ("synth", "sort n; sort n;", 3, "swiss: Twice at 13\n"),
-    ("synth|--breadth|literals 7", "a $", 3, "swiss: BadByte at 2\n"),
+    (
+        "synth|--breadth|literals 7",
+        "a $",
+        3,
+        "swiss: BadByte at 2\n",
+    ),
     (
         "synth|--breadth|literals 7",
         "sort n; init q;",
