@@ -1,0 +1,4 @@
+pub mod Terms
+pub mod Literals
+pub mod Bodies
+pub mod Prefixes
