@@ -10,6 +10,7 @@ use Rattle.sw_meaning.specs.declared.protocol.Protocol.{Protocol}
 use Rattle.sw_meaning.specs.declared.template.Template.{Template}
 use Rattle.sw_meaning.specs.Space.{InSpace}
 use Rattle.sw_template.specs.Prefix.{variable_count}
+use Rattle.sw_protocol.specs.Stratified.{IsText}
 
 -- a name that does not begin with an underscore
 pub record IsShownName (x : List ℕ) : Type 0 where
@@ -20,6 +21,10 @@ pub record IsShownName (x : List ℕ) : Type 0 where
 pub record AreSymbolNames (sig : Signature) : Type 0 where
   pub names : AllByRecursion (λ (s : Symbol). IsShownName s.name) sig.symbols
   pub apart : (i j : ℕ) (s t : Symbol) → slice_get sig.symbols i ≡ Some s → slice_get sig.symbols j ≡ Some t → s.name ≡ t.name → i ≡ j
+
+-- the names of the symbols of a protocol that a text has are such
+abbrev pub DeclaredNamesAreSymbolNames : Type 0
+DeclaredNamesAreSymbolNames = (text : List ℕ) (p : Protocol) → IsText text p → AreSymbolNames p.signature
 
 -- two formulas of one template with one text are one
 abbrev pub TextsTellFormulas : Type 0

@@ -1,15 +1,15 @@
-mod Spacing
-mod Tidy
+pub mod Spacing
+pub mod Tidy
 mod SpeltTerms
 mod Measured
 mod SpeltForms
 mod SameMeaning
-mod Tidied
-mod ShownAs
-mod Formulas
+pub mod Tidied
+pub mod ShownAs
+pub mod Formulas
 mod Growing
-mod WrittenLists
+pub mod WrittenLists
 mod WrittenNames
-mod WrittenDeclarations
+pub mod WrittenDeclarations
 mod WrittenTransitions
 mod Protocols
