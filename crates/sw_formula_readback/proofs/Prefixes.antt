@@ -31,7 +31,7 @@ use Rattle.sw_formula_readback.proofs.Literals.{Literal, literal_is}
 use Rattle.sw_formula_readback.proofs.Bodies.{IsCube, body_told}
 
 -- the names in scope under blocks
-abbrev names_after : List (List ℕ) → List Block → List (List ℕ)
+abbrev pub names_after : List (List ℕ) → List Block → List (List ℕ)
 names_after names [] = names
 names_after names (b ∷ bs) = names_after (names ++ names_of b.binders) bs
 
@@ -61,7 +61,7 @@ module _ (sig : Signature) where
 
 -- ---- the names
 
-abbrev variable : ℕ → List ℕ
+abbrev pub variable : ℕ → List ℕ
 variable n = 95 ∷ decimal n
 
 range_parts : (a c n : ℕ) → range_with_len a (c + n) ≡ range_with_len a c ++ range_with_len (a + c) n
@@ -83,7 +83,7 @@ names_before names b (c ∷ cs) = by (same_quantifier b.universal c.universal)
     by true = ap (λ xs. names_after xs cs) (ap (λ xs. names ++ xs) (map-append (λ (x : Binder). x.name) b.binders c.binders) ∙ sym (append_assoc names (names_of b.binders) (names_of c.binders)))
     by false = refl
 
-names_are : (names : List (List ℕ)) (before : ℕ) (runs : List Run) → names_after names (blocks before runs) ≡ names ++ map variable (range_with_len (before + 1) (variable_count runs))
+pub names_are : (names : List (List ℕ)) (before : ℕ) (runs : List Run) → names_after names (blocks before runs) ≡ names ++ map variable (range_with_len (before + 1) (variable_count runs))
 names_are names before [] = sym (append-nil names)
 names_are names before (run ∷ runs) =
     let start : (before + run.count) + 1 ≡ (before + 1) + run.count = omega arith in
@@ -106,7 +106,7 @@ same_length (b ∷ bs) sorts names h =
     let four = length-map b.binders (λ (x : Binder). x.name) in
     same_length bs (extended sorts b.binders) (names ++ names_of b.binders) (omega (arith, h, one, two, three, four))
 
-variable_at : (a n v : ℕ) (x : List ℕ) → slice_get (map variable (range_with_len a n)) v ≡ Some x → (x ≡ variable (a + v)) × (v < n)
+pub variable_at : (a n v : ℕ) (x : List ℕ) → slice_get (map variable (range_with_len a n)) v ≡ Some x → (x ≡ variable (a + v)) × (v < n)
 variable_at a zero v x h = absurd (none-some x h)
 variable_at a (suc n) zero x h = let start : a ≡ a + 0 = omega arith in (sym (same_Some (variable a) x h) ∙ ap variable start, omega arith)
 variable_at a (suc n) (suc v) x h =

@@ -3,4 +3,4 @@
 
 mod laws;
 
-pub use laws::{declared_names_are_symbol_names, texts_tell_formulas};
+pub use laws::{template_formulas_read_back, texts_have_declared_names, texts_tell_formulas};
