@@ -1,6 +1,3 @@
-pub mod Terms
-pub mod Literals
-pub mod Bodies
 pub mod Prefixes
 pub mod Declared
 pub mod Trees

@@ -1,5 +1,5 @@
 -- The text of a formula of a template has this formula.
-use Rattle.std.specs.Prelude.{◌≡◌, ◌+◌, ◌*◌, ◌<◌, ◌≤◌, ℕ, zero, suc, Bool, true, false, if◌then◌else◌, List, [], ◌∷◌, ◌++◌, length, map, take, drop, get_or, slice_get, Some, option_map}
+use Rattle.std.specs.Prelude.{◌≡◌, ◌+◌, ◌*◌, ◌<◌, ◌≤◌, ℕ, zero, suc, Bool, true, false, if◌then◌else◌, List, [], ◌∷◌, ◌++◌, length, map, take, drop, get_or, slice_get, Some, option_map, Result, Ok}
 use Rattle.std.specs.List.{AllByRecursion, flat_map, range_with_len}
 use Rattle.std.specs.Fmt.{decimal, digits}
 use Rattle.std.proofs.Common.{refl, sym, ap, subst, ◌∙◌, arith, append_assoc, append-nil}
@@ -31,12 +31,14 @@ use Rattle.sw_trees.specs.Words.{name_sign}
 use Rattle.sw_trees.specs.Measures.{Nestings, nestings_of}
 use Rattle.sw_trees.specs.declared.limits.TheConstants.{NESTINGS}
 use Rattle.sw_text.specs.Names.{Scope, formula_read}
-use Rattle.sw_text.specs.Texts.{base_in}
+use Rattle.sw_text.specs.Texts.{base_in, HasFormula}
+use Rattle.sw_text.specs.declared.texts.TextError.{TextError}
+use Rattle.sw_text.proofs.OneFormula.{one_formula}
 use Rattle.sw_readback.proofs.Tidy.{IsNameText}
 use Rattle.sw_readback.proofs.Measured.{tidy_nestings}
 use Rattle.sw_readback.proofs.ShownAs.{extends_itself}
 use Rattle.sw_readback.proofs.Formulas.{Stands, tidy_stands, stands_alone}
-use Rattle.sw_formula_readback.specs.Laws.{IsShownName, AreDeclaredNames, TemplateFormulasReadBack}
+use Rattle.sw_formula_readback.specs.Laws.{IsShownName, AreDeclaredNames, TemplateFormulasReadBack, TextsTellFormulas, in_one_state}
 use Rattle.sw_formula_readback.proofs.Prefixes.{names_after, names_are, variable, variable_at}
 use Rattle.sw_formula_readback.proofs.Trees.{Written, AreWritten, ScopeWritten, around}
 use Rattle.sw_formula_readback.proofs.Bodied.{FormulaOf, all_tree, any_tree, literal_formula}
@@ -238,3 +240,11 @@ read_back p t f declared is h =
     let s = tidy_stands a p.signature (extends_itself p.signature) [] 0 0 x.tree (x.shown, (x.count, x.tidy)) x.fine T 0 [] (base_in []) (record { iffs = refl; variables = refl }) (omega (arith, most))
     (record { fits = omega arith; is = sym (append-nil (text_of p.signature [] (formula_read a x.tree [])) ∙ text) }) refl in
     stands_alone a [] f (nestings_of x.tree) T (subst (λ (g : Formula). Stands a [] g (nestings_of x.tree) (base_in []) T 0 []) x.is s) most
+
+same_formula : (f g : Formula) → ◌≡◌ {A = Result Formula TextError} (Ok f) (Ok g) → f ≡ g
+same_formula f g e = cc
+
+pub texts_tell : TextsTellFormulas
+texts_tell p t u f g declared is fits h i e =
+    same_formula f g (one_formula (in_one_state p.signature (text_of p.signature [] g)) [] (Ok f) (Ok g)
+    (subst (λ T. HasFormula (in_one_state p.signature T) [] (Ok f)) e (read_back p t f declared is h)) (read_back p u g declared fits i))

@@ -1,5 +1,5 @@
 -- The text of a formula tells the formula.
-use Rattle.std.specs.Prelude.{◌≡◌, ◌≢◌, ℕ, ◌≤◌, true, List, [], slice_get, get_or, Some, Ok}
+use Rattle.std.specs.Prelude.{◌≡◌, ◌≢◌, ℕ, true, List, [], slice_get, get_or, Some, Ok}
 use Rattle.std.specs.List.{AllByRecursion}
 use Rattle.sw_scan.specs.Spelling.{is_name}
 use Rattle.sw_logic.specs.declared.syntax.Symbol.{Symbol}
@@ -9,7 +9,6 @@ use Rattle.sw_logic.specs.Canonical.{text_of}
 use Rattle.sw_meaning.specs.declared.protocol.Protocol.{Protocol}
 use Rattle.sw_meaning.specs.declared.template.Template.{Template}
 use Rattle.sw_meaning.specs.Space.{InSpace}
-use Rattle.sw_template.specs.Prefix.{variable_count}
 use Rattle.sw_template_text.specs.Texts.{IsTemplate}
 use Rattle.sw_trees.specs.declared.words.Sign.{Sign}
 use Rattle.sw_trees.specs.Words.{name_sign}
@@ -49,7 +48,7 @@ in_one_state sig text = record { text = text; signature = sig; declared_too = []
 abbrev pub TemplateFormulasReadBack : Type 0
 TemplateFormulasReadBack = (p : Protocol) (t : Template) (f : Formula) → AreDeclaredNames p.signature → IsTemplate p.signature t → InSpace p t f → HasFormula (in_one_state p.signature (text_of p.signature [] f)) [] (Ok f)
 
--- two formulas of one template with one text are one
+-- two formulas of templates with one text are one
 abbrev pub TextsTellFormulas : Type 0
-TextsTellFormulas = (p : Protocol) (t : Template) (f g : Formula) → AreSymbolNames p.signature → variable_count t.prefix ≤ 6 → InSpace p t f → InSpace p t g
+TextsTellFormulas = (p : Protocol) (t u : Template) (f g : Formula) → AreDeclaredNames p.signature → IsTemplate p.signature t → IsTemplate p.signature u → InSpace p t f → InSpace p u g
     → text_of p.signature [] f ≡ text_of p.signature [] g → f ≡ g

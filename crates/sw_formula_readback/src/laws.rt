@@ -1,7 +1,7 @@
 //! Laws about the definitions: each is the contract of a function that does nothing.
 ghost use Rattle.sw_formula_readback.specs.Laws.{TextsHaveDeclaredNames, TemplateFormulasReadBack, TextsTellFormulas};
 
-/// Two formulas of one template with one text are one.
+/// Two formulas of templates over one protocol with one text are one.
 pub fn texts_tell_formulas()
     ensures { TextsTellFormulas }
 {}

@@ -1,4 +1,4 @@
-//! That the text of a formula of a template is of no other.
+//! That the text of a formula of a template reads back, and is of no other.
 #![tactic(auto)]
 
 mod laws;
