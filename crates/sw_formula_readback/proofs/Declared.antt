@@ -16,7 +16,8 @@ use Rattle.sw_logic.specs.declared.syntax.Symbol.{Symbol}
 use Rattle.sw_logic.specs.declared.syntax.Formula.{Formula}
 use Rattle.sw_meaning.specs.declared.protocol.Protocol.{Protocol}
 use Rattle.sw_trees.specs.declared.words.Word.{Word}
-use Rattle.sw_trees.specs.Words.{word_of}
+use Rattle.sw_trees.specs.declared.words.Sign.{Sign}
+use Rattle.sw_trees.specs.Words.{word_of, name_sign}
 use Rattle.sw_trees.specs.Grammar.{Mark, no_loads}
 use Rattle.sw_trees.specs.Answers.{words_in}
 use Rattle.sw_text.specs.declared.names.Rule.{Rule}
@@ -29,13 +30,13 @@ use Rattle.sw_protocol.specs.declared.parsing.Parsed.{Parsed}
 use Rattle.sw_protocol.specs.declared.texts.ProtocolError.{ProtocolError}
 use Rattle.sw_protocol.specs.Grammar.{is_hidden, AreBracketed, AreSorts, MayTake, MayModify, IsHeading, IsDeclaration, AreDeclarations}
 use Rattle.sw_protocol.specs.Answers.{IsAnswer}
-use Rattle.sw_protocol.specs.Declaring.{empty_protocol, after, declared, name_faults, sorts_faults, sort_faults, declaration_faults, all_faults, all_declared, with_symbol, with_statement, relation_of, constant_of, function_of}
+use Rattle.sw_protocol.specs.Declaring.{empty_protocol, after, declared, name_faults, sorts_faults, sort_faults, declaration_faults, all_faults, all_declared, with_sort, with_symbol, with_statement, relation_of, constant_of, function_of}
 use Rattle.sw_protocol.specs.Texts.{HasDeclared, outcome, first_broken}
 use Rattle.sw_protocol.specs.Stratified.{Judges, HasProtocol}
 use Rattle.sw_readback.proofs.Tidied.{AllGood, scanned_good, marks_good, formula_tidy}
 use Rattle.sw_readback.proofs.WrittenLists.{good_names, good_params}
 use Rattle.sw_readback.proofs.WrittenDeclarations.{IsNewIn, new_in}
-use Rattle.sw_formula_readback.specs.Laws.{IsShownName, AreSymbolNames, DeclaredNamesAreSymbolNames}
+use Rattle.sw_formula_readback.specs.Laws.{IsShownName, AreDeclaredNames, TextsHaveDeclaredNames}
 
 -- ---- the words of a text that name what is declared
 
@@ -45,14 +46,14 @@ module _ (A : List ℕ) where
   shown_by (b ∷ bs) n h = record { name = n; shown = λ e. false≢true (sym (subst (λ c. (c == 95) ≡ false) e h)) }
 
   abbrev IsShown : Word → Type 0
-  IsShown w = IsShownName (bytes_at A w)
+  IsShown w = IsShownName (bytes_at A w) × (name_sign (bytes_at A w) ≡ Sign.Name)
 
   new_shown : (w : Word) → IsNewIn A w → IsShown w
-  new_shown w h = shown_by (bytes_at A w) h.name.name h.shown
+  new_shown w h = (shown_by (bytes_at A w) h.name.name h.shown, h.name.sign)
 
   -- the name of a symbol that is declared
   abbrev Declares : Declaration → Type 0
-  Declares (Declaration.Sort n) = Unit {0}
+  Declares (Declaration.Sort n) = IsShown n
   Declares (Declaration.Relation mutable n ss) = IsShown n
   Declares (Declaration.Constant mutable n s) = IsShown n
   Declares (Declaration.Function n ss s) = IsShown n
@@ -72,7 +73,7 @@ module _ (A : List ℕ) where
   past_modifies (MayModify.modifies k i names) h = (good_names A names h.1).1
 
   declares : {ms rest : List Mark} {d : Declaration} → IsDeclaration A ms d rest → AllGood A ms → Declares d × AllGood A rest
-  declares (IsDeclaration.sort k n e i new j) h = (tt, h.1.1.1)
+  declares (IsDeclaration.sort k n e i new j) h = (new_shown n.word (new_in A no_loads n new h.1.0), h.1.1.1)
   declares (IsDeclaration.relation mutable c k n e i j new sorts l) h = (new_shown n.word (new_in A no_loads n new h.1.1.0), (past_sorts sorts h.1.1.1).1)
   declares (IsDeclaration.constant mutable c k n d s e i j new l m o) h = (new_shown n.word (new_in A no_loads n new h.1.1.0), h.1.1.1.1.1.1)
   declares (IsDeclaration.function c k n d s e i j new (AreBracketed.bracketed l r il names ir) m o t) h = (new_shown n.word (new_in A no_loads n new h.1.1.0), (good_names A names h.1.1.1.1).1.1.1.1.1)
@@ -98,18 +99,47 @@ absent name (x ∷ xs) zero s h e n =
     false≢true (sym here.0 ∙ is)
 absent name (x ∷ xs) (suc i) s h e n = absent name xs i s (either_false (bytes_eq name x.name) (list_any (λ (x : Symbol). bytes_eq name x.name) xs) h).1 e n
 
-with_symbol_names : (p : Protocol) (s : Symbol) → IsShownName s.name → list_any (λ (x : Symbol). bytes_eq s.name x.name) p.signature.symbols ≡ false → AreSymbolNames p.signature → AreSymbolNames (with_symbol p s).signature
+absent_sort : (name : List ℕ) (xs : List (List ℕ)) (i : ℕ) → list_any (bytes_eq name) xs ≡ false → slice_get xs i ≡ Some name → ⊥
+absent_sort name [] i h e = none-some name e
+absent_sort name (x ∷ xs) zero h e =
+    let here = either_false (bytes_eq name x) (list_any (bytes_eq name) xs) h in
+    let is : bytes_eq name x ≡ true = (bytes_eq-Decides name x).1 (sym (same_Some x name e)) in
+    false≢true (sym here.0 ∙ is)
+absent_sort name (x ∷ xs) (suc i) h e = absent_sort name xs i (either_false (bytes_eq name x) (list_any (bytes_eq name) xs) h).1 e
+
+with_symbol_names : (p : Protocol) (s : Symbol) → IsShownName s.name × (name_sign s.name ≡ Sign.Name) → list_any (λ (x : Symbol). bytes_eq s.name x.name) p.signature.symbols ≡ false → AreDeclaredNames p.signature → AreDeclaredNames (with_symbol p s).signature
 with_symbol_names p s shown new h = record {
-  names = each-push (λ (x : Symbol). IsShownName x.name) p.signature.symbols s h.names shown;
-  apart = λ i j x y e f n. by i j x y (get_push_cases p.signature.symbols s i x e) (get_push_cases p.signature.symbols s j y f) n;
+  symbols = record {
+    names = each-push (λ (x : Symbol). IsShownName x.name) p.signature.symbols s h.symbols.names shown.0;
+    apart = λ i j x y e f n. by i j x y (get_push_cases p.signature.symbols s i x e) (get_push_cases p.signature.symbols s j y f) n;
+  };
+  no_keywords = each-push (λ (x : Symbol). name_sign x.name ≡ Sign.Name) p.signature.symbols s h.no_keywords shown.1;
+  sorts = h.sorts;
+  sorts_no_keywords = h.sorts_no_keywords;
+  sorts_apart = h.sorts_apart;
 }
   where
     by : (i j : ℕ) (x y : Symbol) → (slice_get p.signature.symbols i ≡ Some x) ⊎ ((i ≡ length p.signature.symbols) × (x ≡ s)) → (slice_get p.signature.symbols j ≡ Some y) ⊎ ((j ≡ length p.signature.symbols) × (y ≡ s))
         → x.name ≡ y.name → i ≡ j
-    by i j x y (inl e) (inl f) n = h.apart i j x y e f n
+    by i j x y (inl e) (inl f) n = h.symbols.apart i j x y e f n
     by i j x y (inl e) (inr f) n = absurd (absent s.name p.signature.symbols i x new e (ap (λ (z : Symbol). z.name) (sym f.1) ∙ sym n))
     by i j x y (inr e) (inl f) n = absurd (absent s.name p.signature.symbols j y new f (ap (λ (z : Symbol). z.name) (sym e.1) ∙ n))
     by i j x y (inr e) (inr f) n = e.0 ∙ sym f.0
+
+with_sort_names : (p : Protocol) (s : List ℕ) → IsShownName s × (name_sign s ≡ Sign.Name) → list_any (bytes_eq s) p.signature.sorts ≡ false → AreDeclaredNames p.signature → AreDeclaredNames (with_sort p s).signature
+with_sort_names p s shown new h = record {
+  symbols = record { names = h.symbols.names; apart = h.symbols.apart };
+  no_keywords = h.no_keywords;
+  sorts = each-push IsShownName p.signature.sorts s h.sorts shown.0;
+  sorts_no_keywords = each-push (λ x. name_sign x ≡ Sign.Name) p.signature.sorts s h.sorts_no_keywords shown.1;
+  sorts_apart = λ i j x e f. by i j x (get_push_cases p.signature.sorts s i x e) (get_push_cases p.signature.sorts s j x f);
+}
+  where
+    by : (i j : ℕ) (x : List ℕ) → (slice_get p.signature.sorts i ≡ Some x) ⊎ ((i ≡ length p.signature.sorts) × (x ≡ s)) → (slice_get p.signature.sorts j ≡ Some x) ⊎ ((j ≡ length p.signature.sorts) × (x ≡ s)) → i ≡ j
+    by i j x (inl e) (inl f) = h.sorts_apart i j x e f
+    by i j x (inl e) (inr f) = absurd (absent_sort s p.signature.sorts i new (e ∙ ap Some f.1))
+    by i j x (inr e) (inl f) = absurd (absent_sort s p.signature.sorts j new (f ∙ ap Some e.1))
+    by i j x (inr e) (inr f) = e.0 ∙ sym f.0
 
 -- ---- the declarations of a text
 
@@ -121,20 +151,23 @@ module _ (A : List ℕ) where
       let two = either_false (list_any (bytes_eq name) q.signature.sorts) _ one.0 in
       (either_false (list_any (λ (x : Symbol). bytes_eq name x.name) q.signature.symbols) _ two.1).0
 
-  one_named : (q : Protocol) (d : Declaration) → declaration_faults (after A q) d ≡ [] → Declares A d → AreSymbolNames q.signature → AreSymbolNames (declared A q d).signature
-  one_named q (Declaration.Sort n) e s h = record { names = h.names; apart = h.apart }
+  new_sort : (q : Protocol) (w : Word) → name_faults (after A q) w ≡ [] → list_any (bytes_eq (bytes_at A w)) q.signature.sorts ≡ false
+  new_sort q w e = (either_false (list_any (bytes_eq (bytes_at A w)) q.signature.sorts) _ (passed w.token.at ((is_declared (after A q) (bytes_at A w), Rule.Twice) ∷ []) e).0).0
+
+  one_named : (q : Protocol) (d : Declaration) → declaration_faults (after A q) d ≡ [] → Declares A d → AreDeclaredNames q.signature → AreDeclaredNames (declared A q d).signature
+  one_named q (Declaration.Sort n) e s h = with_sort_names q (bytes_at A n) s (new_sort q n e) h
   one_named q (Declaration.Relation mutable n ss) e s h = with_symbol_names q (relation_of (after A q) mutable n ss) s (new_name q n (apart (name_faults (after A q) n) (sorts_faults (after A q) ss) e).0) h
   one_named q (Declaration.Constant mutable n t) e s h = with_symbol_names q (constant_of (after A q) mutable n t) s (new_name q n (apart (name_faults (after A q) n) (sort_faults (after A q) t) e).0) h
   one_named q (Declaration.Function n ss t) e s h = with_symbol_names q (function_of (after A q) n ss t) s (new_name q n (apart (name_faults (after A q) n) (sorts_faults (after A q) ss ++ sort_faults (after A q) t) e).0) h
   one_named q (Declaration.Stated kind x) e s h = by kind _
     where
-      by : (k : Statement) (f : Formula) → AreSymbolNames (with_statement q k f).signature
+      by : (k : Statement) (f : Formula) → AreDeclaredNames (with_statement q k f).signature
       by Statement.Axiom f = h
       by Statement.Init f = h
       by Statement.Safety f = h
   one_named q (Declaration.Transition head x) e s h = h
 
-  all_named : (q : Protocol) (ds : List Declaration) → all_faults A q ds ≡ [] → AllByRecursion (Declares A) ds → AreSymbolNames q.signature → AreSymbolNames (all_declared A q ds).signature
+  all_named : (q : Protocol) (ds : List Declaration) → all_faults A q ds ≡ [] → AllByRecursion (Declares A) ds → AreDeclaredNames q.signature → AreDeclaredNames (all_declared A q ds).signature
   all_named q [] e s h = h
   all_named q (d ∷ ds) e s h =
       let both = apart (declaration_faults (after A q) d) (all_faults A (declared A q d) ds) e in
@@ -144,24 +177,24 @@ module _ (A : List ℕ) where
   first_of [] q p e = (refl, cc)
   first_of (v ∷ vs) q p e = cc
 
-  outcome_named : (p : Protocol) (tokens : List Token) (ws : List Word) (found : Parsed) → Scans A 0 (Ok tokens) → ws ≡ map (word_of A) tokens → IsAnswer A ws found → Ok p ≡ outcome A ws found → AreSymbolNames p.signature
+  outcome_named : (p : Protocol) (tokens : List Token) (ws : List Word) (found : Parsed) → Scans A 0 (Ok tokens) → ws ≡ map (word_of A) tokens → IsAnswer A ws found → Ok p ≡ outcome A ws found → AreDeclaredNames p.signature
   outcome_named p tokens ws (Parsed.Syntax n) scans w answer e = cc
   outcome_named p tokens ws (Parsed.TooDeep n) scans w answer e = cc
   outcome_named p tokens ws (Parsed.Whole ds) scans w answer e =
       let both = first_of (all_faults A empty_protocol ds) (all_declared A empty_protocol ds) p (sym e) in
       let are : words_in answer.marks ≡ map (word_of A) tokens = answer.begins.are ∙ take_all (length ws) ws (omega arith) ∙ w in
       let good : AllGood A answer.marks = marks_good A answer.marks tokens are (scanned_good A scans) answer.begins.allowed in
-      let none : AreSymbolNames empty_protocol.signature = record { names = tt; apart = λ i j s t f g n. absurd (none-some s f) } in
-      subst (λ (r : Protocol). AreSymbolNames r.signature) both.1 (all_named empty_protocol ds both.0 (all_declare A answer.spelled good) none)
+      let none : AreDeclaredNames empty_protocol.signature = record { symbols = record { names = tt; apart = λ i j s t f g n. absurd (none-some s f) }; no_keywords = tt; sorts = tt; sorts_no_keywords = tt; sorts_apart = λ i j x f g. absurd (none-some x f) } in
+      subst (λ (r : Protocol). AreDeclaredNames r.signature) both.1 (all_named empty_protocol ds both.0 (all_declare A answer.spelled good) none)
 
-  declared_names : (p : Protocol) → HasDeclared A (Ok p) → AreSymbolNames p.signature
+  declared_names : (p : Protocol) → HasDeclared A (Ok p) → AreDeclaredNames p.signature
   declared_names p (HasDeclared.bad at h e) = cc
   declared_names p (HasDeclared.read tokens found h answer e) = outcome_named p tokens (map (word_of A) tokens) found h refl answer e
 
   same_protocol : (p q : Protocol) → ◌≡◌ {A = Result Protocol ProtocolError} (Ok p) (Ok q) → q ≡ p
   same_protocol p q e = cc
 
-pub names_are : DeclaredNamesAreSymbolNames
+pub names_are : TextsHaveDeclaredNames
 names_are text p (HasProtocol.refused e h is) = cc
 names_are text p (HasProtocol.declared q h (Judges.cycle sort c is)) = cc
 names_are text p (HasProtocol.declared q h (Judges.ranked ranks r is)) =

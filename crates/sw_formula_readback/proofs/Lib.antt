@@ -1,5 +1,6 @@
-pub mod Terms
-pub mod Literals
-pub mod Bodies
 pub mod Prefixes
 pub mod Declared
+pub mod Trees
+pub mod Bodied
+pub mod Bound
+pub mod ReadBack

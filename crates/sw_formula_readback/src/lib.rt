@@ -1,6 +1,6 @@
-//! That the text of a formula of a template is of no other.
+//! That the text of a formula of a template reads back, and is of no other.
 #![tactic(auto)]
 
 mod laws;
 
-pub use laws::{declared_names_are_symbol_names, texts_tell_formulas};
+pub use laws::{template_formulas_read_back, texts_have_declared_names, texts_tell_formulas};

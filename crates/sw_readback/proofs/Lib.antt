@@ -1,7 +1,7 @@
 pub mod Spacing
 pub mod Tidy
 mod SpeltTerms
-mod Measured
+pub mod Measured
 mod SpeltForms
 mod SameMeaning
 pub mod Tidied

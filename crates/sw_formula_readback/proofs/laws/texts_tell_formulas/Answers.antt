@@ -1,4 +1,4 @@
-use Rattle.sw_formula_readback.proofs.Prefixes.{texts_tell}
+use Rattle.sw_formula_readback.proofs.ReadBack.{texts_tell}
 use Rattle.sw_formula_readback.proofs.laws.texts_tell_formulas.Goals as goal
 
 pub returns : goal.returns

@@ -1,5 +1,5 @@
 use Rattle.sw_formula_readback.proofs.Declared.{names_are}
-use Rattle.sw_formula_readback.proofs.laws.declared_names_are_symbol_names.Goals as goal
+use Rattle.sw_formula_readback.proofs.laws.texts_have_declared_names.Goals as goal
 
 pub returns : goal.returns
 returns c = names_are
