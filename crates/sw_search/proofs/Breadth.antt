@@ -20,8 +20,8 @@ use Rattle.sw_enumerate.specs.Spaces.{Made, parts_in, classes_in, formula_in}
 use Rattle.sw_verdict.specs.Judgement.{IsSpentBy, IsTooLargeBy, CanAsk}
 use Rattle.sw_examine.specs.declared.examining.QueryName.{QueryName}
 use Rattle.sw_examine.specs.Examinations.{IsAsked}
-use Rattle.sw_plain.specs.declared.considering.BreadthError.TheVariants.{Spent, TooLarge}
-use Rattle.sw_plain.specs.States.{AreEarned, AskedUnder, IsCause, classes_of}
+use Rattle.sw_breadth.specs.declared.considering.BreadthError.TheVariants.{Spent, TooLarge}
+use Rattle.sw_breadth.specs.States.{AreEarned, AskedUnder, IsCause, classes_of}
 use Rattle.sw_search.specs.Searches.{IsList, InBreadth, named_class}
 use Rattle.sw_search.specs.Spaces.{IsSearchable}
 use Rattle.sw_search.proofs.Lists.{can_ask, listed}

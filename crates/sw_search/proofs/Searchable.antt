@@ -23,8 +23,8 @@ use Rattle.sw_template.specs.Prefix.{variable_count}
 use Rattle.sw_template_laws.proofs.Blocks.{formulas_add_these_edges}
 use Rattle.sw_template_laws.proofs.Binding.{formulas_bind_few, holds_flat, equal_flat}
 use Rattle.sw_enumerate.specs.Spaces.{Made, IsSpaceOf, parts_in, classes_in, formula_in}
-use Rattle.sw_plain.specs.Parts.{all_classes, part_at}
-use Rattle.sw_plain.specs.States as states
+use Rattle.sw_breadth.specs.Parts.{all_classes, part_at}
+use Rattle.sw_breadth.specs.States as states
 use Rattle.sw_search.specs.Spaces.{IsReadable, IsSearchable}
 
 -- a class is of cubes that there are

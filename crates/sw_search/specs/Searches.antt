@@ -23,7 +23,7 @@ use Rattle.sw_template.specs.Bodies.{Class}
 use Rattle.sw_examine.specs.declared.examining.QueryName.{QueryName}
 use Rattle.sw_examine.specs.declared.examining.QueryName.TheVariants as name
 use Rattle.sw_examine.specs.Examinations.{IsAsked}
-use Rattle.sw_plain.specs.States.{BeginsWith}
+use Rattle.sw_breadth.specs.States.{BeginsWith}
 use Rattle.sw_search.specs.declared.telling.Told.{Told}
 use Rattle.sw_search.specs.declared.telling.Told.TheVariants.{Report, Stopped}
 

@@ -4,10 +4,10 @@ ghost use Rattle.sw_enumerate.specs.Spaces.{classes_in};
 
 use std::alloc::{AllocError, Global};
 use std::marker::Model;
+use sw_breadth::Walk;
 use sw_enumerate::Space;
 use sw_filter::Candidates;
 use sw_logic::{Formula, Signature, Structure};
-use sw_plain::Walk;
 use sw_template::{Body, holds_body};
 
 /// The classes of a space, of which there are not too many. Contracts see what the space is made of.

@@ -1,7 +1,7 @@
 -- How many ground terms the symbols of a signature give.
 use Rattle.std.specs.Prelude.{◌≡◌, ℕ, zero, suc, ◌+◌, ◌*◌, ◌^◌, ◌≤◌, nat_lt, true, false, ◌&&◌, ◌==◌, List, [], ◌∷◌, length, map}
 use Rattle.std.specs.List.{flat_map, filter, enumerate_from, range_with_len, sum_by, list_all}
-use Rattle.std.proofs.Common.{arith, refl, sym, ap, ◌∙◌, inl, inr}
+use Rattle.std.proofs.Common.{arith, refl, sym, ap, subst, ◌∙◌, inl, inr}
 use Rattle.std.proofs.Math.Nat.{suc-mul}
 use Rattle.std.proofs.Math.ListN.{get_or-eq_default}
 use Rattle.std.proofs.lemmas.Bool.{cases_Bool, cases_lt, and_parts}
@@ -139,3 +139,11 @@ within_none sig ok (suc depth) sort far =
 
 pub none_beyond : (sig : Signature) → is_signature sig ≡ true → (sort : ℕ) → length sig.sorts ≤ sort → length (terms_of sig sort) ≡ 0
 none_beyond sig ok sort far = within_none sig ok (length sig.sorts) sort far
+
+-- counts that one more nesting leaves as they are stay so
+pub counts_stay : (sig : Signature) (depth : ℕ) (counts : List ℕ) → is_signature sig ≡ true → AreCounts sig depth counts → map (count_over sig.symbols counts) (range_with_len 0 (length sig.sorts)) ≡ counts → (more : ℕ)
+    → AreCounts sig (depth + more) counts
+counts_stay sig depth counts ok are same zero = let here : depth ≡ depth + zero = omega arith in subst (λ n. AreCounts sig n counts) here are
+counts_stay sig depth counts ok are same (suc more) =
+    let next : depth + more + 1 ≡ depth + suc more = omega arith in
+    subst (λ n. AreCounts sig n counts) next (subst (AreCounts sig (depth + more + 1)) same (deeper_counts sig (depth + more) counts ok (counts_stay sig depth counts ok are same more)))

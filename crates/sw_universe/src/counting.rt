@@ -122,7 +122,8 @@ fn deeper(
     Ok(counts)
 }
 
-/// The numbers of terms of each sort that are nested no deeper than there are sorts.
+/// The numbers of terms of each sort that are nested no deeper than there are sorts. Numbers that no
+/// deeper term changes stay as they are.
 pub fn term_counts(alloc: Global, sig: &Signature, sorts: u32) -> Result<Items<u128>, AllocError>
     requires signature { is_signature sig.now ≡ true }
     requires count { length sig.now.sorts ≡ sorts }
@@ -131,7 +132,11 @@ pub fn term_counts(alloc: Global, sig: &Signature, sorts: u32) -> Result<Items<u
     let mut counts = all_constants(alloc, sig.symbols.as_slice(), sorts)?;
     for depth in 0..sorts {
         let _depth = depth;
-        counts = deeper(alloc, sig.symbols.as_slice(), sorts, counts.as_slice())?;
+        let next = deeper(alloc, sig.symbols.as_slice(), sorts, counts.as_slice())?;
+        if next.as_slice() == counts.as_slice() {
+            return Ok(counts);
+        }
+        counts = next;
     }
     Ok(counts)
 }

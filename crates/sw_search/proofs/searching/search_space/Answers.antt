@@ -1,6 +1,6 @@
 use Rattle.std.proofs.Common.{sym, subst}
 use Rattle.sw_enumerate.specs.Spaces.{Made, parts_in, formula_in}
-use Rattle.sw_plain.specs.States.{CanSearch}
+use Rattle.sw_breadth.specs.States.{CanSearch}
 use Rattle.sw_search.specs.Spaces.{IsReadable}
 use Rattle.sw_search.proofs.Searchable.{can_search}
 use Rattle.sw_search.proofs.searching.search_space.Goals as goal

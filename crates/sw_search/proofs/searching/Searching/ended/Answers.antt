@@ -1,7 +1,7 @@
 use Rattle.std.proofs.Common.{subst}
 use Rattle.sw_meaning.specs.Plain.{PlainList}
 use Rattle.sw_enumerate.specs.Spaces.{parts_in}
-use Rattle.sw_plain.specs.States.{IsCause}
+use Rattle.sw_breadth.specs.States.{IsCause}
 use Rattle.sw_search.proofs.Breadth.{spent_in, large_in}
 use Rattle.sw_search.proofs.searching.Searching.ended.Goals as goal
 
