@@ -4,6 +4,6 @@ use Rattle.sw_meaning.specs.declared.protocol.Protocol.{Protocol}
 use Rattle.sw_meaning.specs.declared.template.Template.{Template}
 use Rattle.sw_search.specs.Searches.{IsReport}
 
--- the protocol and the template fix the status of a report, and each byte of it
+-- the protocol and the templates fix the status of a report, and each byte of it
 abbrev pub OneReport : Type 0
-OneReport = (p : Protocol) (t : Option Template) (m n : ℕ) (a b : List ℕ) → IsReport p t m a → IsReport p t n b → (m ≡ n) × (a ≡ b)
+OneReport = (p : Protocol) (t u : Option Template) (m n : ℕ) (a b : List ℕ) → IsReport p t u m a → IsReport p t u n b → (m ≡ n) × (a ≡ b)

@@ -1,4 +1,4 @@
--- What a search tells of a protocol, a template if there is one, and a budget: a report, or what ended it.
+-- What a search tells of a protocol, the templates that there are, and a budget: a report, or what ended it.
 use Rattle.std.specs.Prelude.{Contains, ◌≡◌, ℕ, ◌<◌, ◌≤◌, List, [], length, Option, Some, None, slice_get, string_bytes}
 use Rattle.sw_logic.specs.declared.syntax.Signature.{Signature}
 use Rattle.sw_logic.specs.declared.syntax.Formula.{Formula}
@@ -24,6 +24,8 @@ use Rattle.sw_examine.specs.declared.examining.QueryName.{QueryName}
 use Rattle.sw_examine.specs.declared.examining.QueryName.TheVariants as name
 use Rattle.sw_examine.specs.Examinations.{IsAsked}
 use Rattle.sw_breadth.specs.States.{BeginsWith}
+use Rattle.sw_join.specs.Joining.{IsAsked as IsAskedToJoin}
+use Rattle.sw_finish.specs.Finishing.{IsFirstJoined}
 use Rattle.sw_search.specs.declared.telling.Told.{Told}
 use Rattle.sw_search.specs.declared.telling.Told.TheVariants.{Report, Stopped}
 
@@ -40,25 +42,36 @@ pub record IsList (p : Protocol) (t : Option Template) (list : List Formula) : T
   pub closed : Closed p t list
   pub plain : IsPlain p t list
 
--- the status and the text are those of such a list and of its word
-pub record IsReport (p : Protocol) (t : Option Template) (status : ℕ) (bytes : List ℕ) : Type 0 where
+-- the formula of a word is that of the first class in order that joins
+abbrev pub IsFirst : Protocol → Option Template → List Formula → Word → Type 0
+IsFirst p None list (Word.safe_with f) = ⊥
+IsFirst p (Some u) list (Word.safe_with f) = (c : List ℕ) × IsFirstJoined p u list (classes p.signature u) c × (f ≡ formula_of p.signature u c)
+IsFirst p u list Word.violated = Unit {0}
+IsFirst p u list Word.safe = Unit {0}
+IsFirst p u list Word.exhausted = Unit {0}
+IsFirst p u list Word.unsettled = Unit {0}
+
+-- the word on a list, and the first formula of the finish template that serves for it
+pub record HasVerdict (p : Protocol) (u : Option Template) (list : List Formula) (word : Word) : Type 0 where
+  pub verdict : Verdict p u list word
+  pub first : IsFirst p u list word
+
+-- the status and the text are those of such a list and of its word; `t` is the template of the list, `u` the one to finish with
+pub record IsReport (p : Protocol) (t u : Option Template) (status : ℕ) (bytes : List ℕ) : Type 0 where
   pub list : List Formula
   pub word : Word
   pub found : IsList p t list
-  pub verdict : Verdict p None list word
+  pub says : HasVerdict p u list word
   pub text : bytes ≡ report_text p t list word
   pub ends : status ≡ word_status word
 
 -- the text of a report has so many bytes, more than are written
-pub record IsTextOver (p : Protocol) (t : Option Template) (n : ℕ) : Type 0 where
+pub record IsTextOver (p : Protocol) (t u : Option Template) (n : ℕ) : Type 0 where
   pub status : ℕ
   pub bytes : List ℕ
-  pub report : IsReport p t status bytes
+  pub report : IsReport p t u status bytes
   pub is : n ≡ length bytes
   pub over : OUTPUT_LIMIT < length bytes
-
-abbrev pub HasVerdict : Protocol → List Formula → Named → Type 0
-HasVerdict p list word = Verdict p None list (word_of word)
 
 -- ---- the query that ended a search
 
@@ -120,18 +133,31 @@ pub record InBreadth (p : Protocol) (t : Template) (name : QueryName) (Known : Q
   pub is_asked : IsAsked p (formulas_of p t list) (formula_of p.signature t class.cubes) class query name
   pub known : Known query
 
+-- the query of this name, of a class of the finish template, under the list, which leaves safety open
+pub record InFinish (p : Protocol) (t : Option Template) (u : Template) (name : QueryName) (Known : Query → Type 0) : Type 0 where
+  pub list : List Formula
+  pub found : IsList p t list
+  pub open_ : Verdict p None list Word.unsettled
+  pub class : Class
+  pub among : Contains (classes p.signature u) class.cubes
+  pub query : Query
+  pub is_asked : IsAskedToJoin p list (formula_of p.signature u class.cubes) class query name
+  pub known : Known query
+
 -- why a search stops at the query that is told so: one row a phase
-pub data Stops (p : Protocol) (t : Option Template) (budget : Option ℕ) (asked : Asked) (ended : Ended) : Type 0 where
+pub data Stops (p : Protocol) (t u : Option Template) (budget : Option ℕ) (asked : Asked) (ended : Ended) : Type 0 where
   in_breadth : (template : Template) (name : QueryName) → t ≡ Some template → (b : InBreadth p template name (EndsBy budget ended)) → asked ≡ told_query p name (formula_of p.signature template b.class.cubes)
-      → Stops p t budget asked ended
-  in_safety : (list : List Formula) (query : SafetyQuery) → IsList p t list → asked ≡ told_safety p query → Ends p list query (EndsBy budget ended) → Stops p t budget asked ended
+      → Stops p t u budget asked ended
+  in_safety : (list : List Formula) (query : SafetyQuery) → IsList p t list → asked ≡ told_safety p query → Ends p list query (EndsBy budget ended) → Stops p t u budget asked ended
+  in_finish : (template : Template) (name : QueryName) → u ≡ Some template → (b : InFinish p t template name (EndsBy budget ended)) → asked ≡ told_query p name (formula_of p.signature template b.class.cubes)
+      → Stops p t u budget asked ended
 
 -- the line of what ended a search without a report
-pub data IsStopped (p : Protocol) (t : Option Template) (budget : Option ℕ) (line : List ℕ) : Type 0 where
-  asked : (asked : Asked) (ended : Ended) → Stops p t budget asked ended → line ≡ ended_line p.signature asked ended → IsStopped p t budget line
-  over : (n : ℕ) → IsTextOver p t n → line ≡ text_over_line n → IsStopped p t budget line
+pub data IsStopped (p : Protocol) (t u : Option Template) (budget : Option ℕ) (line : List ℕ) : Type 0 where
+  asked : (asked : Asked) (ended : Ended) → Stops p t u budget asked ended → line ≡ ended_line p.signature asked ended → IsStopped p t u budget line
+  over : (n : ℕ) → IsTextOver p t u n → line ≡ text_over_line n → IsStopped p t u budget line
 
 -- what a search tells
-abbrev pub IsTold : Protocol → Option Template → Option ℕ → Told → Type 0
-IsTold p t budget (Report status text) = IsReport p t status (string_bytes text) × (length (string_bytes text) ≤ OUTPUT_LIMIT)
-IsTold p t budget (Stopped line) = IsStopped p t budget (string_bytes line)
+abbrev pub IsTold : Protocol → Option Template → Option Template → Option ℕ → Told → Type 0
+IsTold p t u budget (Report status text) = IsReport p t u status (string_bytes text) × (length (string_bytes text) ≤ OUTPUT_LIMIT)
+IsTold p t u budget (Stopped line) = IsStopped p t u budget (string_bytes line)

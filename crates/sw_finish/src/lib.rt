@@ -1,0 +1,6 @@
+//! The finisher on one worker: the first class of a template in order that joins under a list.
+#![tactic(auto)]
+
+pub mod finishing;
+
+pub use finishing::{FinishError, FinishedOne, finish_one};
