@@ -51,7 +51,8 @@ module _ (p : Protocol) (ok : IsWellFormed p) (g : List Formula) (f : Formula) w
         (λ pair arguments leaves. x.2.none (joined p t pair arguments) ((join_query_means p t g (Some f) (is_transition i t e)).from pair arguments leaves), x.2.within)
 
     -- one more refutation
-    pub refuted_push : (n : ℕ) (rs : List Refutation) (r : Refutation) → AreRefuted p g f budget n rs → OfJoin p g f n (λ q. IsRefutedBy q budget r) → AreRefuted p g f budget (n + 1) (rs ++ r ∷ [])
+    pub refuted_push : (n : ℕ) (rs : List Refutation) (r : Refutation)
+        → AreRefuted p g f budget n rs → OfJoin p g f n (λ q. IsRefutedBy q budget r) → AreRefuted p g f budget (n + 1) (rs ++ r ∷ [])
     refuted_push n rs r a b = (
       length-append rs (r ∷ []) ∙ ap (λ k. k + 1) a.0,
       λ i t h e. elim (cases_lt i n) [
@@ -64,8 +65,8 @@ module _ (p : Protocol) (ok : IsWellFormed p) (g : List Formula) (f : Formula) w
     )
 
   -- a step from the list, safety and the formula, where each transition joins
-  ends_in_both : JoinedBelow p g f (length p.transitions) → (s t : Structure) → Step p s t → AreTrueIn p.signature s g → AreTrueIn p.signature s p.safeties → IsTrueIn p.signature s f
-      → AreTrueIn p.signature t (with_joined p.safeties (Some f))
+  ends_in_both : JoinedBelow p g f (length p.transitions) → (s t : Structure) → Step p s t
+      → AreTrueIn p.signature s g → AreTrueIn p.signature s p.safeties → IsTrueIn p.signature s f → AreTrueIn p.signature t (with_joined p.safeties (Some f))
   ends_in_both all s t step list safe holds =
       all_true p t (with_joined p.safeties (Some f)) (λ not_after.
       let i = step.among.0 in
@@ -101,16 +102,22 @@ module _ (p : Protocol) (ok : IsWellFormed p) (g : List Formula) (f : Formula) w
         (each-front holds g p.safeties front, each-back holds g p.safeties front)
 
     -- a structure of a join query as a filter: a step that keeps safety leaves the formula
-    pub leaves_formula : AreTrueIn p.signature (pair_in p t s).after p.safeties → LeavesFormula p g f number (filter.Move (pair_in p t s) number (arguments_in p t s) (length g))
+    pub leaves_formula : AreTrueIn p.signature (pair_in p t s).after p.safeties
+        → LeavesFormula p g f number (filter.Move (pair_in p t s) number (arguments_in p t s) (length g))
     leaves_formula safe = record {
       pair = pair_in p t s;
       arguments = arguments_in p t s;
       is = refl;
       safe = safe;
-      rejection = record { admitted = is_step; refutes = (before, λ x. leaves.false_after (AreTrueIn-push p.signature (pair_in p t s).after p.safeties f safe x)); live = obeys };
+      rejection = record {
+        admitted = is_step;
+        refutes = (before, λ x. leaves.false_after (AreTrueIn-push p.signature (pair_in p t s).after p.safeties f safe x));
+        live = obeys;
+      };
     }
 
-    pub leaves_safety : (AreTrueIn p.signature (pair_in p t s).after p.safeties → ⊥) → LeavesSafety p g f number (filter.Bad (pair_in p t s) number (arguments_in p t s) (length g))
+    pub leaves_safety : (AreTrueIn p.signature (pair_in p t s).after p.safeties → ⊥)
+        → LeavesSafety p g f number (filter.Bad (pair_in p t s) number (arguments_in p t s) (length g))
     leaves_safety unsafe = record {
       pair = pair_in p t s;
       arguments = arguments_in p t s;

@@ -7,12 +7,18 @@ use Rattle.sw_join.proofs.asking.ask_join.Goals as goal
 
 pub ask-requires-clause-query : goal.ask-requires-clause-query
 ask-requires-clause-query c =
-    let asking = c.args.asking.now in
-    let t = get_some asking.protocol.now.transitions c.args.transition c.requires.number in
-    subst IsQuery (sym (c.in_ok-query.ensures t.0 t.1)) (join_is_query asking.protocol.now asking.list.now asking.formula.now c.requires.ask c.args.transition t.0 t.1 c.requires.well_formed)
+    let p = c.args.asking.now.protocol.now in
+    let g = c.args.asking.now.list.now in
+    let f = c.args.asking.now.formula.now in
+    let n = c.args.transition in
+    let t = get_some p.transitions n c.requires.number in
+    subst IsQuery (sym (c.in_ok-query.ensures t.0 t.1)) (join_is_query p g f c.requires.ask n t.0 t.1 c.requires.well_formed)
 
 pub ask-requires-clause-strata : goal.ask-requires-clause-strata
 ask-requires-clause-strata c =
-    let asking = c.args.asking.now in
-    let t = get_some asking.protocol.now.transitions c.args.transition c.requires.number in
-    subst IsStratifiedQuery (sym (c.in_ok-query.ensures t.0 t.1)) (join_is_stratified asking.protocol.now asking.list.now asking.formula.now c.requires.ask c.args.transition t.0 t.1)
+    let p = c.args.asking.now.protocol.now in
+    let g = c.args.asking.now.list.now in
+    let f = c.args.asking.now.formula.now in
+    let n = c.args.transition in
+    let t = get_some p.transitions n c.requires.number in
+    subst IsStratifiedQuery (sym (c.in_ok-query.ensures t.0 t.1)) (join_is_stratified p g f c.requires.ask n t.0 t.1)

@@ -31,8 +31,9 @@ returns-in-Leaves c =
     let f = c.args.asking.now.formula.now in
     let ok = c.requires.well_formed in
     let budget = c.args.asking.now.budget in
+    let start : IsTrueAtStart p g f = record { holds = at_start p ok g f budget c.args.start c.requires.start; within = c.requires.start.within } in
     let first = subst (AreStepped p g f budget) c.in-Leaves.is c.in_ok-steps.ensures in
-    (record { holds = at_start p ok g f budget c.args.start c.requires.start; within = c.requires.start.within }, first, move_does_not_join p g f first.number c.in-Leaves.filter first.leaves)
+    (start, first, move_does_not_join p g f first.number c.in-Leaves.filter first.leaves)
 
 pub returns-in-Bad : goal.returns-in-Bad
 returns-in-Bad c =
@@ -41,8 +42,9 @@ returns-in-Bad c =
     let f = c.args.asking.now.formula.now in
     let ok = c.requires.well_formed in
     let budget = c.args.asking.now.budget in
+    let start : IsTrueAtStart p g f = record { holds = at_start p ok g f budget c.args.start c.requires.start; within = c.requires.start.within } in
     let first = subst (AreStepped p g f budget) c.in-Bad.is c.in_ok-steps.ensures in
-    (record { holds = at_start p ok g f budget c.args.start c.requires.start; within = c.requires.start.within }, first, bad_does_not_join p g f first.number c.in-Bad.filter first.leaves)
+    (start, first, bad_does_not_join p g f first.number c.in-Bad.filter first.leaves)
 
 pub returns-in_ok-body-in-Spent : goal.returns-in_ok-body-in-Spent
 returns-in_ok-body-in-Spent c =
@@ -56,7 +58,8 @@ returns-in_ok-body-in-Spent c =
     let t = get_some p.transitions n told.0 in
     let start : IsTrueAtStart p g f = record { holds = at_start p ok g f budget c.args.start c.requires.start; within = c.requires.start.within } in (
       join_of p g f t.0,
-      subst (λ (b : Class). IsAsked p g f c.args.body.now (join_of p g f t.0) (name.Join n b)) (sym c.in_ok-body-in-Spent.ensures) (IsAsked.join n t.0 t.1 refl start told.1),
+      subst (λ (b : Class). IsAsked p g f c.args.body.now (join_of p g f t.0) (name.Join n b)) (sym c.in_ok-body-in-Spent.ensures)
+          (IsAsked.join n t.0 t.1 refl start told.1),
       told.2 t.0 t.1,
     )
 
@@ -72,6 +75,7 @@ returns-in_ok-body-in-TooLarge c =
     let t = get_some p.transitions n told.0 in
     let start : IsTrueAtStart p g f = record { holds = at_start p ok g f budget c.args.start c.requires.start; within = c.requires.start.within } in (
       join_of p g f t.0,
-      subst (λ (b : Class). IsAsked p g f c.args.body.now (join_of p g f t.0) (name.Join n b)) (sym c.in_ok-body-in-TooLarge.ensures) (IsAsked.join n t.0 t.1 refl start told.1),
+      subst (λ (b : Class). IsAsked p g f c.args.body.now (join_of p g f t.0) (name.Join n b)) (sym c.in_ok-body-in-TooLarge.ensures)
+          (IsAsked.join n t.0 t.1 refl start told.1),
       told.2 t.0 t.1,
     )

@@ -15,7 +15,8 @@ returns-in-Found c =
     let f = c.args.asking.now.formula.now in
     let s = c.in-Found.structure in
     let told = subst (IsAnswer (start_query_of p f) c.args.asking.now.budget) c.in-Found.is c.in_ok-start.ensures in
-    let fails : FailsAtStart p g f (filter.Start s) = record { structure = s; is = refl; rejection = start_rejects p c.requires.well_formed g f s told.satisfies; within = told.within } in
+    let rejection = start_rejects p c.requires.well_formed g f s told.satisfies in
+    let fails : FailsAtStart p g f (filter.Start s) = record { structure = s; is = refl; rejection = rejection; within = told.within } in
     (fails, start_does_not_join p g f (filter.Start s) fails)
 
 pub returns-in_ok-body-in-Spent : goal.returns-in_ok-body-in-Spent
@@ -24,7 +25,8 @@ returns-in_ok-body-in-Spent c =
     let g = c.args.asking.now.list.now in
     let f = c.args.asking.now.formula.now in
     let told = subst (IsAnswer (start_query_of p f) c.args.asking.now.budget) c.in-Spent.is c.in_ok-start.ensures in
-    (start_query_of p f, subst (λ (b : Class). IsAsked p g f c.args.body.now (start_query_of p f) (name.Start b)) (sym c.in_ok-body-in-Spent.ensures) (IsAsked.start refl), told)
+    let q = start_query_of p f in
+    (q, subst (λ (b : Class). IsAsked p g f c.args.body.now q (name.Start b)) (sym c.in_ok-body-in-Spent.ensures) (IsAsked.start refl), told)
 
 pub returns-in_ok-body-in-TooLarge : goal.returns-in_ok-body-in-TooLarge
 returns-in_ok-body-in-TooLarge c =
@@ -32,4 +34,5 @@ returns-in_ok-body-in-TooLarge c =
     let g = c.args.asking.now.list.now in
     let f = c.args.asking.now.formula.now in
     let told = subst (IsAnswer (start_query_of p f) c.args.asking.now.budget) c.in-TooLarge.is c.in_ok-start.ensures in
-    (start_query_of p f, subst (λ (b : Class). IsAsked p g f c.args.body.now (start_query_of p f) (name.Start b)) (sym c.in_ok-body-in-TooLarge.ensures) (IsAsked.start refl), told)
+    let q = start_query_of p f in
+    (q, subst (λ (b : Class). IsAsked p g f c.args.body.now q (name.Start b)) (sym c.in_ok-body-in-TooLarge.ensures) (IsAsked.start refl), told)

@@ -11,8 +11,9 @@ returns-in-Leaves c =
     let f = c.args.asking.now.formula.now in
     let budget = c.args.asking.now.budget in
     let n = c.loop-transition.transition in
+    let below = refuted_below p c.requires.well_formed g f budget n c.loop-transition.refutations c.loop-transition.invariant in
     let stepped = subst (IsStepped p g f budget n) c.in-Leaves.is c.in_ok-refutation.ensures in
-    record { number = n; leaves = stepped.0; joined = refuted_below p c.requires.well_formed g f budget n c.loop-transition.refutations c.loop-transition.invariant; within = stepped.1 }
+    record { number = n; leaves = stepped.0; joined = below; within = stepped.1 }
 
 pub returns-in-Bad : goal.returns-in-Bad
 returns-in-Bad c =
@@ -21,8 +22,9 @@ returns-in-Bad c =
     let f = c.args.asking.now.formula.now in
     let budget = c.args.asking.now.budget in
     let n = c.loop-transition.transition in
+    let below = refuted_below p c.requires.well_formed g f budget n c.loop-transition.refutations c.loop-transition.invariant in
     let stepped = subst (IsStepped p g f budget n) c.in-Bad.is c.in_ok-refutation.ensures in
-    record { number = n; leaves = stepped.0; joined = refuted_below p c.requires.well_formed g f budget n c.loop-transition.refutations c.loop-transition.invariant; within = stepped.1 }
+    record { number = n; leaves = stepped.0; joined = below; within = stepped.1 }
 
 pub returns-in-Spent : goal.returns-in-Spent
 returns-in-Spent c =
@@ -31,7 +33,8 @@ returns-in-Spent c =
     let f = c.args.asking.now.formula.now in
     let budget = c.args.asking.now.budget in
     let n = c.loop-transition.transition in
-    (omega (arith, c.in_ok-count.ensures), refuted_below p c.requires.well_formed g f budget n c.loop-transition.refutations c.loop-transition.invariant, subst (IsStepped p g f budget n) c.in-Spent.is c.in_ok-refutation.ensures)
+    let below = refuted_below p c.requires.well_formed g f budget n c.loop-transition.refutations c.loop-transition.invariant in
+    (omega (arith, c.in_ok-count.ensures), below, subst (IsStepped p g f budget n) c.in-Spent.is c.in_ok-refutation.ensures)
 
 pub returns-in-TooLarge : goal.returns-in-TooLarge
 returns-in-TooLarge c =
@@ -40,7 +43,8 @@ returns-in-TooLarge c =
     let f = c.args.asking.now.formula.now in
     let budget = c.args.asking.now.budget in
     let n = c.loop-transition.transition in
-    (omega (arith, c.in_ok-count.ensures), refuted_below p c.requires.well_formed g f budget n c.loop-transition.refutations c.loop-transition.invariant, subst (IsStepped p g f budget n) c.in-TooLarge.is c.in_ok-refutation.ensures)
+    let below = refuted_below p c.requires.well_formed g f budget n c.loop-transition.refutations c.loop-transition.invariant in
+    (omega (arith, c.in_ok-count.ensures), below, subst (IsStepped p g f budget n) c.in-TooLarge.is c.in_ok-refutation.ensures)
 
 pub loop-transition-preserved : goal.loop-transition-preserved
 loop-transition-preserved c =
@@ -49,5 +53,6 @@ loop-transition-preserved c =
     let f = c.args.asking.now.formula.now in
     let budget = c.args.asking.now.budget in
     let n = c.loop-transition.transition in
+    let stepped = subst (IsStepped p g f budget n) c.in-Joins.is c.in_ok-refutation.ensures in
     subst (λ (rs : List Refutation). AreRefuted p g f budget (n + 1) rs) (sym c.in_ok-push-in-Joins.ensures.ok)
-    (refuted_push p c.requires.well_formed g f budget n c.loop-transition.refutations c.in-Joins.refutation c.loop-transition.invariant (subst (IsStepped p g f budget n) c.in-Joins.is c.in_ok-refutation.ensures))
+    (refuted_push p c.requires.well_formed g f budget n c.loop-transition.refutations c.in-Joins.refutation c.loop-transition.invariant stepped)
