@@ -1,19 +1,19 @@
 -- What the plain pass says of its list, and of the query that ended it.
-use Rattle.std.specs.Prelude.{◌≡◌, ℕ, List, [], ◌∷◌, ◌++◌, map, length, Option, Some, None, unwrap_or}
+use Rattle.std.specs.Prelude.{◌≡◌, ℕ, List, [], ◌∷◌, ◌++◌, map, Option, Some, None, unwrap_or}
 use Rattle.std.proofs.Common.{refl, sym, ap, subst, ◌∙◌}
 use Rattle.std.proofs.lemmas.List.{map-append}
 use Rattle.sw_logic.specs.declared.syntax.Formula.{Formula}
 use Rattle.sw_meaning.specs.declared.protocol.Protocol.{Protocol}
 use Rattle.sw_meaning.specs.declared.template.Template.{Template}
-use Rattle.sw_meaning.specs.Classes.{classes, classes_of as all_of_cubes, formula_of}
+use Rattle.sw_meaning.specs.Classes.{formula_of}
 use Rattle.sw_meaning.specs.Inductive.{EarnedAfter}
-use Rattle.sw_meaning.specs.Plain.{PlainList, Until, formulas_of}
+use Rattle.sw_meaning.specs.Plain.{PlainList, formulas_of}
 use Rattle.sw_meaning.specs.WellFormed.{IsWellFormed}
 use Rattle.sw_meaning.proofs.Earned.{plain_is_earned}
 use Rattle.sw_template.specs.Bodies.{Class}
 use Rattle.sw_truth.specs.declared.instances.Refutation.{Refutation}
 use Rattle.sw_universe.specs.declared.sizes.Size.{Size}
-use Rattle.sw_enumerate.specs.Spaces.{Made, parts_in, classes_in, formula_in}
+use Rattle.sw_enumerate.specs.Spaces.{Made, parts_in, formula_in}
 use Rattle.sw_examine.specs.declared.examining.QueryName.{QueryName}
 use Rattle.sw_examine.specs.Examinations.{IsAsked}
 use Rattle.sw_logic.specs.declared.query.Query.{Query}
@@ -26,10 +26,6 @@ use Rattle.sw_search.proofs.Searchable.{cover, formula_is, among, in_space}
 -- the budget that was given is the one that is told
 pub given_is : (budget : Option ℕ) (most : ℕ) → budget ≡ Some most → budget ≡ Some (unwrap_or budget 0)
 given_is budget most e = subst (λ (o : Option ℕ). o ≡ Some (unwrap_or o 0)) (sym e) refl
-
--- without a template
-pub bare_list : (p : Protocol) → IsList p None []
-bare_list p = record { earned = tt; closed = λ f h. absurd h; plain = refl }
 
 asked_class : (p : Protocol) (g : List Formula) (f : Formula) (class : Class) (q : Query) (name : QueryName) → IsAsked p g f class q name → named_class name ≡ Some class
 asked_class p g f class q name (IsAsked.start e) = refl
@@ -99,6 +95,3 @@ module _ (p : Protocol) (s : Made) (ok : IsWellFormed p) (can : CanSearch p (Som
         let told = told_query p name (formula_of p.signature t b.class.cubes) in
         let same = ap (λ f. ended_line p.signature (told_query p name f) ended) (formula_is p can.extra s ok can.breadth b.class.cubes) in
         IsStopped.asked told ended (Stops.in_breadth t name refl b refl) (is b.class class ∙ same)
-
-pub counted : (p : Protocol) (s : Made) (cs : List (List ℕ)) → s.cubes ≡ cs → length (classes_in s) ≡ length (all_of_cubes s.template.literals cs)
-counted p s cs e = ap (λ (cs : List (List ℕ)). length (all_of_cubes s.template.literals cs)) e

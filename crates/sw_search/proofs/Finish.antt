@@ -1,5 +1,5 @@
 -- What the search for a class that joins shows, and of the query that ended it.
-use Rattle.std.specs.Prelude.{◌≡◌, ◌≢◌, ℕ, true, List, [], ◌∷◌, ◌++◌, Option, Some, None, Contains, IfSome, unwrap_or}
+use Rattle.std.specs.Prelude.{◌≡◌, ℕ, List, [], ◌∷◌, Option, Some, None, Contains, IfSome, unwrap_or}
 use Rattle.std.proofs.Common.{refl, sym, ap, subst, ◌∙◌}
 use Rattle.std.proofs.lemmas.List.Elements.{Contains-append_right}
 use Rattle.sw_lists.proofs.Members.{contains_head}
@@ -10,9 +10,7 @@ use Rattle.sw_logic.specs.Truth.{IsTrueIn, truth, world}
 use Rattle.sw_meaning.specs.declared.protocol.Protocol.{Protocol}
 use Rattle.sw_meaning.specs.declared.template.Template.{Template}
 use Rattle.sw_meaning.specs.Classes.{classes, cubes, formula_of}
-use Rattle.sw_meaning.specs.Space.{InSpace}
 use Rattle.sw_meaning.specs.Verdict.{Word, Verdict, NotSafeBy, Joins, Exhausted as NoneInSpace}
-use Rattle.sw_meaning.specs.WellFormed.{IsWellFormed}
 use Rattle.sw_cover.proofs.Parted.{parts_are_classes}
 use Rattle.sw_template.specs.Bodies.{Class}
 use Rattle.sw_truth.specs.declared.instances.Refutation.{Refutation}
@@ -36,21 +34,6 @@ not_safe p g w is (Verdict.safe e x) = absurd (cc)
 not_safe p g w is (Verdict.safe_with f e x i j) = absurd i
 not_safe p g w is (Verdict.exhausted e x i j) = x
 not_safe p g w is (Verdict.unsettled e x i) = x
-
--- a word that is settled by safety alone serves with any template
-pub is_violated : (p : Protocol) (u : Option Template) (g : List Formula) (w : Word) → w ≡ Word.violated → Verdict p None g w → Verdict p u g w
-is_violated p u g w is (Verdict.violated e x) = Verdict.violated e x
-is_violated p u g w is (Verdict.safe e x) = absurd (cc)
-is_violated p u g w is (Verdict.safe_with f e x i j) = absurd i
-is_violated p u g w is (Verdict.exhausted e x i j) = absurd (cc)
-is_violated p u g w is (Verdict.unsettled e x i) = absurd (cc)
-
-pub is_safe : (p : Protocol) (u : Option Template) (g : List Formula) (w : Word) → w ≡ Word.safe → Verdict p None g w → Verdict p u g w
-is_safe p u g w is (Verdict.violated e x) = absurd (cc)
-is_safe p u g w is (Verdict.safe e x) = Verdict.safe e x
-is_safe p u g w is (Verdict.safe_with f e x i j) = absurd i
-is_safe p u g w is (Verdict.exhausted e x i j) = absurd (cc)
-is_safe p u g w is (Verdict.unsettled e x i) = absurd (cc)
 
 -- what is true in the same structures joins as well
 joins_too : (p : Protocol) (g : List Formula) (f h : Formula) → ((s : Structure) → truth (world p.signature s s) f [] ≡ truth (world p.signature s s) h []) → Joins p g f → Joins p g h

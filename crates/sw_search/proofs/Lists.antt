@@ -1,5 +1,5 @@
 -- The list that a search finds can be asked about.
-use Rattle.std.specs.Prelude.{◌≡◌, ℕ, ◌+◌, ◌≤◌, true, List, [], ◌∷◌, ◌++◌, Option, Some, None, Contains}
+use Rattle.std.specs.Prelude.{ℕ, ◌≤◌, true, List, [], ◌∷◌, ◌++◌, Option, Some, None, Contains}
 use Rattle.std.specs.List.{AllByRecursion}
 use Rattle.std.proofs.Common.{arith, sym, subst}
 use Rattle.sw_lists.proofs.Each.{each-weaker, of_contained}
@@ -11,8 +11,6 @@ use Rattle.sw_meaning.specs.declared.protocol.Protocol.{Protocol}
 use Rattle.sw_meaning.specs.declared.template.Template.{Template}
 use Rattle.sw_meaning.specs.Space.{InSpace}
 use Rattle.sw_meaning.specs.Inductive.{EarnedAfter, Earned}
-use Rattle.sw_meaning.specs.Edges.{IsStratifiedWith}
-use Rattle.sw_meaning.specs.WellFormed.{IsWellFormed}
 use Rattle.sw_query_laws.specs.Edges.{AreAmong, AddsAmong}
 use Rattle.sw_template.specs.Edges.{template_edges}
 use Rattle.sw_template.specs.Prefix.{variable_count}
@@ -20,9 +18,8 @@ use Rattle.sw_template_laws.proofs.Blocks.{formulas_add_these_edges}
 use Rattle.sw_template_laws.proofs.Binding.{formulas_bind_few}
 use Rattle.sw_filter.specs.Filters.{AreNarrow}
 use Rattle.sw_verdict.specs.Judgement.{CanAsk}
-use Rattle.sw_search.specs.Searches.{IsList}
 use Rattle.sw_search.specs.Phases.{IsFound}
-use Rattle.sw_search.specs.Spaces.{IsSearchable, template_of}
+use Rattle.sw_search.specs.Spaces.{IsSearchable}
 use Rattle.sw_enumerate.specs.Spaces.{Made}
 
 -- what lies among edges that lie among others

@@ -1,6 +1,6 @@
 -- The classes of a space can be searched.
-use Rattle.std.specs.Prelude.{◌≡◌, ℕ, zero, suc, ◌+◌, ◌<◌, ◌≤◌, ◌^◌, Bool, true, false, List, [], ◌∷◌, ◌++◌, map, length, Option, IfSome, Contains, slice_get, unwrap_or}
-use Rattle.std.specs.List.{AllByRecursion, flat_map, range_with_len}
+use Rattle.std.specs.Prelude.{◌≡◌, ℕ, zero, suc, ◌+◌, ◌<◌, ◌≤◌, ◌^◌, Bool, true, false, List, [], ◌∷◌, map, length, Option, IfSome, Contains, slice_get, unwrap_or}
+use Rattle.std.specs.List.{AllByRecursion, range_with_len}
 use Rattle.std.proofs.Common.{arith, sym, ap, subst, ◌∙◌, zero-add}
 use Rattle.std.proofs.lemmas.List.{length-append}
 use Rattle.sw_lists.proofs.Each.{each-append, each-weaker, each-any, each-flat_map, of_contained, each-map}
