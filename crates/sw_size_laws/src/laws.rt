@@ -1,0 +1,14 @@
+//! The laws of sizes.
+ghost use Rattle.sw_size_laws.specs.Laws.{SizesGrow};
+
+use sw_skolem::{skolem_is_well_formed, skolem_keeps_strata};
+use sw_universe::universe_is_inhabited;
+
+/// A query of some of the sentences of another has no more ground terms and no more instances.
+pub fn sizes_grow()
+    ensures { SizesGrow }
+{
+    skolem_is_well_formed();
+    skolem_keeps_strata();
+    universe_is_inhabited();
+}
