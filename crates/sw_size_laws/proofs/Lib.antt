@@ -1,6 +1,7 @@
+mod Asked
 mod Counts
 mod Erased
+mod Grown
 mod PieceShapes
 mod SkolemShapes
-pub mod Grown
 pub mod Part

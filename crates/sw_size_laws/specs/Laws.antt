@@ -1,11 +1,26 @@
 -- The laws of sizes, each the contract of a function of the crate.
-use Rattle.std.specs.Prelude.{◌≡◌}
+use Rattle.std.specs.Prelude.{◌≡◌, List, Option, IfSome, Contains}
+use Rattle.sw_logic.specs.declared.syntax.Edge.{Edge}
+use Rattle.sw_logic.specs.declared.syntax.Formula.{Formula}
 use Rattle.sw_logic.specs.declared.query.Query.{Query}
 use Rattle.sw_logic.specs.Queries.{IsQuery}
 use Rattle.sw_ground.specs.Verdict.{IsStratifiedQuery}
+use Rattle.sw_meaning.specs.declared.protocol.Protocol.{Protocol}
+use Rattle.sw_meaning.specs.declared.protocol.Transition.{Transition}
+use Rattle.sw_queries.specs.Queries.{follow_query_of, step_query_of, join_query_of}
+use Rattle.sw_size_laws.specs.Asked.{IsList, IsCandidate}
 use Rattle.sw_size_laws.specs.Part.{IsPartOf}
 use Rattle.sw_size_laws.specs.Sizes.{IsNoLarger}
 
 -- a query of some of the sentences of another, over the same symbols, is no larger
 abbrev pub SizesGrow : Type 0
 SizesGrow = (q r : Query) → IsQuery r → IsStratifiedQuery r → q.signature ≡ r.signature → IsPartOf q.sentences r.sentences → IsNoLarger q r
+
+-- what is asked under a part of a list is no larger than what is asked under the list
+pub record ListsGrow : Type 0 where
+  pub follow : (p : Protocol) (extra : List Edge) (g h : List Formula) (f : Formula) → IsPartOf g h → IsList p extra h → IsCandidate p extra f
+      → IsNoLarger (follow_query_of p g f) (follow_query_of p h f)
+  pub step : (p : Protocol) (extra : List Edge) (g h : List Formula) (f : Formula) (t : Transition) → IsPartOf g h → IsList p extra h → IsCandidate p extra f → Contains p.transitions t
+      → IsNoLarger (step_query_of p t g f) (step_query_of p t h f)
+  pub join : (p : Protocol) (extra : List Edge) (g h : List Formula) (f : Option Formula) (t : Transition) → IsPartOf g h → IsList p extra h → IfSome f (IsCandidate p extra) → Contains p.transitions t
+      → IsNoLarger (join_query_of p t g f) (join_query_of p t h f)

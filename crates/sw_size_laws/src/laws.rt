@@ -1,5 +1,5 @@
 //! The laws of sizes.
-ghost use Rattle.sw_size_laws.specs.Laws.{SizesGrow};
+ghost use Rattle.sw_size_laws.specs.Laws.{ListsGrow, SizesGrow};
 
 use sw_skolem::{skolem_is_well_formed, skolem_keeps_strata};
 use sw_universe::universe_is_inhabited;
@@ -11,4 +11,11 @@ pub fn sizes_grow()
     skolem_is_well_formed();
     skolem_keeps_strata();
     universe_is_inhabited();
+}
+
+/// What is asked under a part of a list is no larger than what is asked under the list.
+pub fn lists_grow()
+    ensures { ListsGrow }
+{
+    sizes_grow();
 }
