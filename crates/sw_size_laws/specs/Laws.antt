@@ -1,5 +1,6 @@
 -- The laws of sizes, each the contract of a function of the crate.
-use Rattle.std.specs.Prelude.{◌≡◌, List, Option, IfSome, Contains}
+use Rattle.std.specs.Prelude.{◌≡◌, ℕ, List, Option, Some, IfSome, Contains}
+use Rattle.std.specs.List.{AllByRecursion}
 use Rattle.sw_logic.specs.declared.syntax.Edge.{Edge}
 use Rattle.sw_logic.specs.declared.syntax.Formula.{Formula}
 use Rattle.sw_logic.specs.declared.query.Query.{Query}
@@ -7,6 +8,10 @@ use Rattle.sw_logic.specs.Queries.{IsQuery}
 use Rattle.sw_ground.specs.Verdict.{IsStratifiedQuery}
 use Rattle.sw_meaning.specs.declared.protocol.Protocol.{Protocol}
 use Rattle.sw_meaning.specs.declared.protocol.Transition.{Transition}
+use Rattle.sw_meaning.specs.declared.template.Template.{Template}
+use Rattle.sw_meaning.specs.Classes.{classes}
+use Rattle.sw_meaning.specs.Inductive.{Earned}
+use Rattle.sw_meaning.specs.Plain.{formulas_of}
 use Rattle.sw_queries.specs.Queries.{follow_query_of, step_query_of, join_query_of}
 use Rattle.sw_size_laws.specs.Asked.{IsList, IsCandidate}
 use Rattle.sw_size_laws.specs.Part.{IsPartOf}
@@ -24,3 +29,12 @@ pub record ListsGrow : Type 0 where
       → IsNoLarger (step_query_of p t g f) (step_query_of p t h f)
   pub join : (p : Protocol) (extra : List Edge) (g h : List Formula) (f : Option Formula) (t : Transition) → IsPartOf g h → IsList p extra h → IfSome f (IsCandidate p extra) → Contains p.transitions t
       → IsNoLarger (join_query_of p t g f) (join_query_of p t h f)
+
+-- these classes, and their formulas, are part of all classes of the template and of their formulas
+pub record IsListedOnce (p : Protocol) (t : Template) (list : List (List ℕ)) : Type 0 where
+  pub of_classes : IsPartOf list (classes p.signature t)
+  pub of_formulas : IsPartOf (formulas_of p t list) (formulas_of p t (classes p.signature t))
+
+-- an earned list of classes has each class once at most
+abbrev pub ListedOnce : Type 0
+ListedOnce = (p : Protocol) (t : Template) (list : List (List ℕ)) → AllByRecursion (Contains (classes p.signature t)) list → Earned p (Some t) (formulas_of p t list) → IsListedOnce p t list

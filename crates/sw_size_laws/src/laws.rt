@@ -1,5 +1,5 @@
 //! The laws of sizes.
-ghost use Rattle.sw_size_laws.specs.Laws.{ListsGrow, SizesGrow};
+ghost use Rattle.sw_size_laws.specs.Laws.{ListedOnce, ListsGrow, SizesGrow};
 
 use sw_skolem::{skolem_is_well_formed, skolem_keeps_strata};
 use sw_universe::universe_is_inhabited;
@@ -19,3 +19,8 @@ pub fn lists_grow()
 {
     sizes_grow();
 }
+
+/// An earned list of classes is part of the list of all classes.
+pub fn listed_once()
+    ensures { ListedOnce }
+{}
