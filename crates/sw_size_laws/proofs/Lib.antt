@@ -1,4 +1,5 @@
 mod Asked
+mod Budget
 mod Counts
 mod Erased
 mod Grown

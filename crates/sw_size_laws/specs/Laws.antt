@@ -1,11 +1,16 @@
 -- The laws of sizes, each the contract of a function of the crate.
-use Rattle.std.specs.Prelude.{◌≡◌, ℕ, List, Option, Some, IfSome, Contains}
+use Rattle.std.specs.Prelude.{◌≡◌, ◌≤◌, ◌+◌, ◌^◌, ℕ, List, Option, Some, None, IfSome, Contains}
 use Rattle.std.specs.List.{AllByRecursion}
 use Rattle.sw_logic.specs.declared.syntax.Edge.{Edge}
 use Rattle.sw_logic.specs.declared.syntax.Formula.{Formula}
 use Rattle.sw_logic.specs.declared.query.Query.{Query}
 use Rattle.sw_logic.specs.Queries.{IsQuery}
-use Rattle.sw_ground.specs.Verdict.{IsStratifiedQuery}
+use Rattle.sw_truth.specs.declared.instances.Ground.{Ground}
+use Rattle.sw_truth.specs.declared.instances.Refutation.{Refutation}
+use Rattle.sw_skolem.specs.Skolem.{skolem_of}
+use Rattle.sw_instances.specs.Numbered.{IsGround}
+use Rattle.sw_ground.specs.Verdict.{IsStratifiedQuery, universe}
+use Rattle.sw_decide.specs.Decision.{IsSpentOn}
 use Rattle.sw_meaning.specs.declared.protocol.Protocol.{Protocol}
 use Rattle.sw_meaning.specs.declared.protocol.Transition.{Transition}
 use Rattle.sw_meaning.specs.declared.template.Template.{Template}
@@ -38,3 +43,9 @@ pub record IsListedOnce (p : Protocol) (t : Template) (list : List (List ℕ)) :
 -- an earned list of classes has each class once at most
 abbrev pub ListedOnce : Type 0
 ListedOnce = (p : Protocol) (t : Template) (list : List (List ℕ)) → AllByRecursion (Contains (classes p.signature t)) list → Earned p (Some t) (formulas_of p t list) → IsListedOnce p t list
+
+-- no budget is none that is spent, and neither is one of 2^(v + 1) steps where the clauses of the instances have v variables
+pub record BudgetSuffices : Type 0 where
+  pub without : (q : Query) (r : Refutation) → IsSpentOn q None r → ⊥
+  pub enough : (q : Query) (most : ℕ) (r : Refutation) (g : Ground) → IsGround (skolem_of q) (universe (skolem_of q)) r.instances g → 2 ^ (g.cnf.variables + 1) ≤ most
+      → IsSpentOn q (Some most) r → ⊥

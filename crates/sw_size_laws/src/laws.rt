@@ -1,6 +1,7 @@
 //! The laws of sizes.
-ghost use Rattle.sw_size_laws.specs.Laws.{ListedOnce, ListsGrow, SizesGrow};
+ghost use Rattle.sw_size_laws.specs.Laws.{BudgetSuffices, ListedOnce, ListsGrow, SizesGrow};
 
+use sw_ground_laws::ground_is_one;
 use sw_skolem::{skolem_is_well_formed, skolem_keeps_strata};
 use sw_universe::universe_is_inhabited;
 
@@ -24,3 +25,10 @@ pub fn lists_grow()
 pub fn listed_once()
     ensures { ListedOnce }
 {}
+
+/// A budget is not spent where there is none, nor where it is as large as the variables can need.
+pub fn budget_suffices()
+    ensures { BudgetSuffices }
+{
+    ground_is_one();
+}
