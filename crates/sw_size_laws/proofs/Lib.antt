@@ -2,6 +2,7 @@ mod Asked
 mod Budget
 mod Counts
 mod Erased
+mod Examples
 mod Grown
 mod Once
 mod PieceShapes
