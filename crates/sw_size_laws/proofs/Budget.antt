@@ -16,8 +16,8 @@ use Rattle.sw_size_laws.specs.Laws.{BudgetSuffices}
 clash : (few most given : ℕ) → most ≡ given → few ≤ most → given < few → ⊥
 clash few most given e l h = absurd (omega arith)
 
-enough : GroundIsOne → (q : Query) (most : ℕ) (r : Refutation) (g : Ground) → IsGround (skolem_of q) (universe (skolem_of q)) r.instances g → 2 ^ (g.cnf.variables + 1) ≤ most
-    → IsSpentOn q (Some most) r → ⊥
+enough : GroundIsOne → (q : Query) (most : ℕ) (r : Refutation) (g : Ground) → IsGround (skolem_of q) (universe (skolem_of q)) r.instances g
+    → 2 ^ (g.cnf.variables + 1) ≤ most → IsSpentOn q (Some most) r → ⊥
 enough one q most r g is l s =
     let same = one (skolem_of q) (universe (skolem_of q)) r.instances g s.ground is s.made in
     let large = subst (λ (c : Cnf). 2 ^ (c.variables + 1) ≤ most) same l in

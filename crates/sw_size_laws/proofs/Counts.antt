@@ -32,7 +32,8 @@ tuple_count f (a ∷ args) =
     let ts = tuples (map f args) in
     uniform_length (λ (x : Term). map (λ t. x ∷ t) ts) (length ts) (λ x. length-map ts (λ t. x ∷ t)) (f a) ∙ ap (λ n. length (f a) * n) (tuple_count f args)
 
-constant_lengths : (sort from : ℕ) (xs : List Symbol) → length (map (λ (s : ℕ × Symbol). Apply s.0 false []) (filter (λ s. is_constant s.1.kind && (s.1.gives == sort)) (enumerate_from from xs))) ≡ sum_by (one_constant sort) xs
+constant_lengths : (sort from : ℕ) (xs : List Symbol)
+    → length (map (λ (s : ℕ × Symbol). Apply s.0 false []) (filter (λ s. is_constant s.1.kind && (s.1.gives == sort)) (enumerate_from from xs))) ≡ sum_by (one_constant sort) xs
 constant_lengths sort from [] = refl
 constant_lengths sort from (x ∷ xs) =
     let rest = constant_lengths sort (from + 1) xs in
@@ -42,12 +43,14 @@ constant_lengths sort from (x ∷ xs) =
     ]
 
 applied_lengths : (f : ℕ → List Term) (sort from : ℕ) (xs : List Symbol)
-    → length (flat_map (λ (s : ℕ × Symbol). map (Apply s.0 false) (tuples (map f s.1.args))) (filter (λ s. is_function s.1.kind && (s.1.gives == sort)) (enumerate_from from xs))) ≡ sum_by (applied_count (λ a. length (f a)) sort) xs
+    → length (flat_map (λ (s : ℕ × Symbol). map (Apply s.0 false) (tuples (map f s.1.args))) (filter (λ s. is_function s.1.kind && (s.1.gives == sort)) (enumerate_from from xs)))
+    ≡ sum_by (applied_count (λ a. length (f a)) sort) xs
 applied_lengths f sort from [] = refl
 applied_lengths f sort from (x ∷ xs) =
     let rest = applied_lengths f sort (from + 1) xs in
     let here = length-map (tuples (map f x.args)) (Apply from false) ∙ tuple_count f x.args in
-    let both = length-append (map (Apply from false) (tuples (map f x.args))) (flat_map (λ (s : ℕ × Symbol). map (Apply s.0 false) (tuples (map f s.1.args))) (filter (λ s. is_function s.1.kind && (s.1.gives == sort)) (enumerate_from (from + 1) xs))) in
+    let both = length-append (map (Apply from false) (tuples (map f x.args)))
+    (flat_map (λ (s : ℕ × Symbol). map (Apply s.0 false) (tuples (map f s.1.args))) (filter (λ s. is_function s.1.kind && (s.1.gives == sort)) (enumerate_from (from + 1) xs))) in
     elim (cases_Bool (is_function x.kind && (x.gives == sort))) [
       | inl t ↦ rw (sum_by-cons (applied_count (λ a. length (f a)) sort) x xs, t) (omega arith)
       | inr n ↦ rw (sum_by-cons (applied_count (λ a. length (f a)) sort) x xs, n) (omega arith)
@@ -167,7 +170,8 @@ sums_le f g (x ∷ xs) h =
     let b = sum_by-cons g x xs in
     omega arith
 
-applied_le : (f g : ℕ → ℕ) (sort : ℕ) (s : Symbol) → (is_function s.kind ≡ true → s.gives ≡ sort → AllByRecursion (λ a. f a ≤ g a) s.args) → applied_count f sort s ≤ applied_count g sort s
+applied_le : (f g : ℕ → ℕ) (sort : ℕ) (s : Symbol) → (is_function s.kind ≡ true → s.gives ≡ sort → AllByRecursion (λ a. f a ≤ g a) s.args)
+    → applied_count f sort s ≤ applied_count g sort s
 applied_le f g sort s h =
     elim (cases_Bool (is_function s.kind && (s.gives == sort))) [
       | inl t ↦ let parts = and_parts (is_function s.kind) (s.gives == sort) t in rw t (choices_le f g s.args (h parts.0 (eqb-true s.gives sort parts.1)))
@@ -178,7 +182,8 @@ module _ (ranks : List ℕ) where
   abbrev Lower : Symbol → Type 0
   Lower s = is_function s.kind ≡ true → AllByRecursion (λ a. slice_index ranks a < slice_index ranks s.gives) s.args
 
-  lower_args : (args : List ℕ) (gives : ℕ) → AllByRecursion (Rises ranks) (edges_between args (gives ∷ [])) → AllByRecursion (λ a. slice_index ranks a < slice_index ranks gives) args
+  lower_args : (args : List ℕ) (gives : ℕ) → AllByRecursion (Rises ranks) (edges_between args (gives ∷ []))
+      → AllByRecursion (λ a. slice_index ranks a < slice_index ranks gives) args
   lower_args [] gives h = tt
   lower_args (a ∷ args) gives h = (h.0, lower_args args gives h.1)
 
@@ -192,13 +197,15 @@ module _ (ranks : List ℕ) where
   each_lower [] h = tt
   each_lower (x ∷ xs) h = (lower_kind x.kind x.args x.gives h.0, each_lower xs h.1)
 
-  below_args : (f g : ℕ → ℕ) (sort : ℕ) → ((a : ℕ) → slice_index ranks a < slice_index ranks sort → f a ≤ g a) → (args : List ℕ) → AllByRecursion (λ a. slice_index ranks a < slice_index ranks sort) args
+  below_args : (f g : ℕ → ℕ) (sort : ℕ) → ((a : ℕ) → slice_index ranks a < slice_index ranks sort → f a ≤ g a) → (args : List ℕ)
+      → AllByRecursion (λ a. slice_index ranks a < slice_index ranks sort) args
       → AllByRecursion (λ a. f a ≤ g a) args
   below_args f g sort h [] l = tt
   below_args f g sort h (a ∷ args) l = (h a l.0, below_args f g sort h args l.1)
 
   -- where the sorts of lower rank have no fewer terms, these symbols give no fewer
-  given_le : (f g : ℕ → ℕ) (sort : ℕ) → ((a : ℕ) → slice_index ranks a < slice_index ranks sort → f a ≤ g a) → (xs : List Symbol) → AllByRecursion Lower xs → given f sort xs ≤ given g sort xs
+  given_le : (f g : ℕ → ℕ) (sort : ℕ) → ((a : ℕ) → slice_index ranks a < slice_index ranks sort → f a ≤ g a) → (xs : List Symbol) → AllByRecursion Lower xs
+      → given f sort xs ≤ given g sort xs
   given_le f g sort h xs l =
       let each : (ys : List Symbol) → AllByRecursion Lower ys → AllByRecursion (λ s. applied_count f sort s ≤ applied_count g sort s) ys = all in
       let apps = sums_le (applied_count f sort) (applied_count g sort) xs (each xs l) in
@@ -206,8 +213,11 @@ module _ (ranks : List ℕ) where
     where
       all : (ys : List Symbol) → AllByRecursion Lower ys → AllByRecursion (λ s. applied_count f sort s ≤ applied_count g sort s) ys
       all [] k = tt
-      all (y ∷ ys) k =
-          (applied_le f g sort y (λ e same. below_args f g sort h y.args (subst (λ (n : ℕ). AllByRecursion (λ a. slice_index ranks a < slice_index ranks n) y.args) same (k.0 e))), all ys k.1)
+      all (y ∷ ys) k = (
+        applied_le f g sort y
+            (λ e same. below_args f g sort h y.args (subst (λ (n : ℕ). AllByRecursion (λ a. slice_index ranks a < slice_index ranks n) y.args) same (k.0 e))),
+        all ys k.1,
+      )
 
 -- a signature with these symbols besides, and a constant for each sort that would be bare
 abbrev pub filled : Signature → List Symbol → Signature
@@ -226,7 +236,8 @@ module _ (sig : Signature) (fewer more : List Symbol) (sum : (f : Symbol → ℕ
   ranks = strata.ranks
 
   lower : AllByRecursion (Lower ranks) (sig.symbols ++ (fewer ++ fresh_constants (length sig.sorts) (sig.symbols ++ fewer)))
-  lower = each_lower ranks (filled sig fewer).symbols (each-unflat_map (Rises ranks) (λ (s : Symbol). symbol_edges s.kind s.args s.gives) (filled sig fewer).symbols strata.are.rises)
+  lower = each_lower ranks (filled sig fewer).symbols
+      (each-unflat_map (Rises ranks) (λ (s : Symbol). symbol_edges s.kind s.args s.gives) (filled sig fewer).symbols strata.are.rises)
 
   -- the three kinds of symbols
   split : (count : ℕ → ℕ) (sort : ℕ) (made : List Symbol) → given count sort (filled sig made).symbols
@@ -254,7 +265,8 @@ module _ (sig : Signature) (fewer more : List Symbol) (sum : (f : Symbol → ℕ
       let one = one_fresh (is_bare (sig.symbols ++ fewer)) sort 0 (length sig.sorts) in
       omega arith
 
-  full_count : (sort : ℕ) → sort < length sig.sorts → is_bare (sig.symbols ++ fewer) sort ≡ false → small sort ≡ given small sort sig.symbols + given small sort fewer
+  full_count : (sort : ℕ) → sort < length sig.sorts → is_bare (sig.symbols ++ fewer) sort ≡ false
+      → small sort ≡ given small sort sig.symbols + given small sort fewer
   full_count sort h e =
       let are = counts_are (filled sig fewer) strata sort h in
       let s = split small sort fewer in

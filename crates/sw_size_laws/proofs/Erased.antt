@@ -72,7 +72,8 @@ any_has x (t ∷ ts) h = ap (λ b. b || list_any (has x) (map erased ts)) (h.0.o
 
 each_put : (us ts : List Term) → AllByRecursion IsSame ts → map erased (map (put us) ts) ≡ map (put (map erased us)) (map erased ts)
 each_put us [] h = refl
-each_put us (t ∷ ts) h = ap (λ (y : Term). y ∷ map erased (map (put us) ts)) (h.0.puts us) ∙ ap (λ (ys : List Term). put (map erased us) (erased t) ∷ ys) (each_put us ts h.1)
+each_put us (t ∷ ts) h = ap (λ (y : Term). y ∷ map erased (map (put us) ts)) (h.0.puts us)
+    ∙ ap (λ (ys : List Term). put (map erased us) (erased t) ∷ ys) (each_put us ts h.1)
 
 variable_same : (v : ℕ) → IsSame (Variable v)
 variable_same v = record {
@@ -178,8 +179,10 @@ occurs_layer (Formula-F.Implies p q) = subst Occurs (sym (rolls-Implies p.0 q.0)
     (λ x. ap (occurs x) (shape-Implies p.0 q.0) ∙ occurs-Implies x (shape p.0) (shape q.0) ∙ either p.0 q.0 p.1 q.1 x ∙ sym (occurs-Implies x p.0 q.0))
 occurs_layer (Formula-F.Iff p q) = subst Occurs (sym (rolls-Iff p.0 q.0))
     (λ x. ap (occurs x) (shape-Iff p.0 q.0) ∙ occurs-Iff x (shape p.0) (shape q.0) ∙ either p.0 q.0 p.1 q.1 x ∙ sym (occurs-Iff x p.0 q.0))
-occurs_layer (Formula-F.ForAll bs p) = subst Occurs (sym (rolls-ForAll bs p.0)) (λ x. ap (occurs x) (shape-ForAll bs p.0) ∙ occurs-ForAll x bs (shape p.0) ∙ p.1 x ∙ sym (occurs-ForAll x bs p.0))
-occurs_layer (Formula-F.Exists bs p) = subst Occurs (sym (rolls-Exists bs p.0)) (λ x. ap (occurs x) (shape-Exists bs p.0) ∙ occurs-Exists x bs (shape p.0) ∙ p.1 x ∙ sym (occurs-Exists x bs p.0))
+occurs_layer (Formula-F.ForAll bs p) = subst Occurs (sym (rolls-ForAll bs p.0))
+    (λ x. ap (occurs x) (shape-ForAll bs p.0) ∙ occurs-ForAll x bs (shape p.0) ∙ p.1 x ∙ sym (occurs-ForAll x bs p.0))
+occurs_layer (Formula-F.Exists bs p) = subst Occurs (sym (rolls-Exists bs p.0))
+    (λ x. ap (occurs x) (shape-Exists bs p.0) ∙ occurs-Exists x bs (shape p.0) ∙ p.1 x ∙ sym (occurs-Exists x bs p.0))
 
 pub occurs_shape : (f : Formula) → Occurs f
 occurs_shape = ind-Formula Occurs (λ x y is. subst (λ z. Occurs (roll-Formula z)) is (occurs_layer y))
@@ -191,7 +194,8 @@ Puts f = (ts : List Term) → shape (with_terms ts f) ≡ with_terms (map erased
 each_puts : (ts : List Term) (ps : List Formula) → AllByRecursion Puts ps → map shape (map (with_terms ts) ps) ≡ map (with_terms (map erased ts)) (map shape ps)
 each_puts ts [] h = refl
 each_puts ts (p ∷ ps) h =
-    ap (λ (y : Formula). y ∷ map shape (map (with_terms ts) ps)) (h.0 ts) ∙ ap (λ (ys : List Formula). with_terms (map erased ts) (shape p) ∷ ys) (each_puts ts ps h.1)
+    ap (λ (y : Formula). y ∷ map shape (map (with_terms ts) ps)) (h.0 ts)
+    ∙ ap (λ (ys : List Formula). with_terms (map erased ts) (shape p) ∷ ys) (each_puts ts ps h.1)
 
 -- what a formula with terms in the place of its variables is, one step down
 with-True : (ts : List Term) → with_terms ts True ≡ True
@@ -228,7 +232,8 @@ with-Exists : (ts : List Term) (bs : List Binder) (p : Formula) → with_terms t
 with-Exists ts bs p = search (rules, formulas.the_lemmas)
 
 -- from a step on each side
-met : (ts : List Term) (f g h : Formula) → with_terms ts f ≡ g → shape f ≡ h → shape g ≡ with_terms (map erased ts) h → shape (with_terms ts f) ≡ with_terms (map erased ts) (shape f)
+met : (ts : List Term) (f g h : Formula) → with_terms ts f ≡ g → shape f ≡ h → shape g ≡ with_terms (map erased ts) h
+    → shape (with_terms ts f) ≡ with_terms (map erased ts) (shape f)
 met ts f g h d e k = ap shape d ∙ k ∙ sym (ap (with_terms (map erased ts)) e)
 
 puts_layer : (y : Formula-F ((f : Formula) × Puts f)) → Puts (roll-Formula (formulas.map-Formula ((f : Formula) × Puts f) Formula (λ e. e.0) y))
@@ -252,11 +257,13 @@ puts_layer (Formula-F.Any ps) = let qs = map (λ (e : (f : Formula) × Puts f). 
     (shape-Any (map (with_terms ts) qs) ∙ ap Any (each_puts ts qs (each-pairs Puts ps)) ∙ sym (with-Any (map erased ts) (map shape qs))))
 puts_layer (Formula-F.Implies p q) = subst Puts (sym (rolls-Implies p.0 q.0))
     (λ ts. met ts (Implies p.0 q.0) (Implies (with_terms ts p.0) (with_terms ts q.0)) (Implies (shape p.0) (shape q.0)) (with-Implies ts p.0 q.0) (shape-Implies p.0 q.0)
-    (shape-Implies (with_terms ts p.0) (with_terms ts q.0) ∙ ap (λ (f : Formula). Implies f (shape (with_terms ts q.0))) (p.1 ts) ∙ ap (Implies (with_terms (map erased ts) (shape p.0))) (q.1 ts)
+    (shape-Implies (with_terms ts p.0) (with_terms ts q.0) ∙ ap (λ (f : Formula). Implies f (shape (with_terms ts q.0))) (p.1 ts)
+    ∙ ap (Implies (with_terms (map erased ts) (shape p.0))) (q.1 ts)
     ∙ sym (with-Implies (map erased ts) (shape p.0) (shape q.0))))
 puts_layer (Formula-F.Iff p q) = subst Puts (sym (rolls-Iff p.0 q.0))
     (λ ts. met ts (Iff p.0 q.0) (Iff (with_terms ts p.0) (with_terms ts q.0)) (Iff (shape p.0) (shape q.0)) (with-Iff ts p.0 q.0) (shape-Iff p.0 q.0)
-    (shape-Iff (with_terms ts p.0) (with_terms ts q.0) ∙ ap (λ (f : Formula). Iff f (shape (with_terms ts q.0))) (p.1 ts) ∙ ap (Iff (with_terms (map erased ts) (shape p.0))) (q.1 ts)
+    (shape-Iff (with_terms ts p.0) (with_terms ts q.0) ∙ ap (λ (f : Formula). Iff f (shape (with_terms ts q.0))) (p.1 ts)
+    ∙ ap (Iff (with_terms (map erased ts) (shape p.0))) (q.1 ts)
     ∙ sym (with-Iff (map erased ts) (shape p.0) (shape q.0))))
 puts_layer (Formula-F.ForAll bs p) = subst Puts (sym (rolls-ForAll bs p.0))
     (λ ts. met ts (ForAll bs p.0) (ForAll bs (with_terms ts p.0)) (ForAll bs (shape p.0)) (with-ForAll ts bs p.0) (shape-ForAll bs p.0)

@@ -61,7 +61,8 @@ edges_all : (fs : List Formula) (ranks : List ℕ) → AllByRecursion (λ (f : F
 edges_all [] ranks h = tt
 edges_all (f ∷ fs) ranks h = each-append (Rises ranks) (formula_edges f true) (flat_map (λ p. formula_edges p.formula p.positive) (asserted fs)) h.0 (edges_all fs ranks h.1)
 
-module _ (laws : Laws) (sig : Signature) (fs gs : List Formula) (part : IsPartOf fs gs) (ok : IsQuery (query sig gs)) (ranks : List ℕ) (are : AreRanks (length sig.sorts) (edges_of sig (asserted gs)) ranks) where
+module _ (laws : Laws) (sig : Signature) (fs gs : List Formula) (part : IsPartOf fs gs) (ok : IsQuery (query sig gs))
+    (ranks : List ℕ) (are : AreRanks (length sig.sorts) (edges_of sig (asserted gs)) ranks) where
   base : ℕ
   base = length sig.symbols
 
@@ -132,7 +133,8 @@ module _ (laws : Laws) (sig : Signature) (fs gs : List Formula) (part : IsPartOf
       let a = pieces_are (choices_in (count fs)) fs in
       let b = pieces_are (choices_in (count gs)) gs in
       let c = flat_part_sum (choices_in (count fs)) (shapes_of (length sig.symbols)) (normal fs) (normal gs) normal_part in
-      let d = sums_le (choices_in (count fs)) (choices_in (count gs)) (shaped gs) (each-any (λ ss. choices_in (count fs) ss ≤ choices_in (count gs) ss) choices_grow (shaped gs)) in
+      let d = sums_le (choices_in (count fs)) (choices_in (count gs)) (shaped gs)
+      (each-any (λ ss. choices_in (count fs) ss ≤ choices_in (count gs) ss) choices_grow (shaped gs)) in
       omega arith
 
   -- a constant has no congruence
@@ -144,7 +146,8 @@ module _ (laws : Laws) (sig : Signature) (fs gs : List Formula) (part : IsPartOf
       let rest = no_congruences some ss in
       omega arith
 
-  all_congruences : (hs : List Formula) → sum_by (congruences (filled sig (made hs))) (filled sig (made hs)).symbols ≡ sum_by (congruences (filled sig (made hs))) sig.symbols + sum_by (congruences (filled sig (made hs))) (made hs)
+  all_congruences : (hs : List Formula) → sum_by (congruences (filled sig (made hs))) (filled sig (made hs)).symbols
+      ≡ sum_by (congruences (filled sig (made hs))) sig.symbols + sum_by (congruences (filled sig (made hs))) (made hs)
   all_congruences hs =
       let f = congruences (filled sig (made hs)) in
       let fresh = fresh_constants (length sig.sorts) (sig.symbols ++ made hs) in

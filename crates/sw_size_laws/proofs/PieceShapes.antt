@@ -30,7 +30,8 @@ piece_shape p = record { vars = p.vars; matrix = shape p.matrix }
 -- variables have no functions
 pub variables_erased : (from count : ℕ) → map erased (variables from count) ≡ variables from count
 variables_erased from zero = refl
-variables_erased from (suc count) = ap (λ (t : Term). t ∷ map erased (variables (from + 1) count)) (erased-Variable from) ∙ ap (λ (ts : List Term). Variable from ∷ ts) (variables_erased (from + 1) count)
+variables_erased from (suc count) = ap (λ (t : Term). t ∷ map erased (variables (from + 1) count)) (erased-Variable from)
+    ∙ ap (λ (ts : List Term). Variable from ∷ ts) (variables_erased (from + 1) count)
 
 pub wider_erased : (ts : List Term) (from count : ℕ) → map erased (ts ++ variables from count) ≡ map erased ts ++ variables from count
 wider_erased ts from count = map-append erased ts (variables from count) ∙ ap (λ (us : List Term). map erased ts ++ us) (variables_erased from count)
@@ -72,7 +73,8 @@ false_same =
 holds_same : (k : ℕ) (post : Bool) (args : List Term) → IsSame (Holds k post args)
 holds_same k post args =
     let there : (us : List Term) → part_of (Holds k post us) ≡ part_step (Formula-F.Holds k post us) = λ us. search (rules, the_lemmas) in
-    by (Holds k post args) (part_step (Formula-F.Holds k post (map erased args))) (part_step (Formula-F.Holds k post args)) (ap part_of (shape-Holds k post args) ∙ there (map erased args)) (there args)
+    by (Holds k post args) (part_step (Formula-F.Holds k post (map erased args))) (part_step (Formula-F.Holds k post args))
+    (ap part_of (shape-Holds k post args) ∙ there (map erased args)) (there args)
     (alone_same (λ ts next. bare (Holds k post (map (put ts) (map erased args)))) (λ ts next. bare (Holds k post (map (put ts) args)))
     (λ ts next. ap (λ (us : List Term). bare (Holds k post us)) (sym (puts_erased ts args)) ∙ ap bare (sym (shape-Holds k post (map (put ts) args)))))
 
@@ -81,16 +83,19 @@ equal_same a b =
     let there : (c d : Term) → part_of (Equal c d) ≡ part_step (Formula-F.Equal c d) = λ c d. search (rules, the_lemmas) in
     by (Equal a b) (part_step (Formula-F.Equal (erased a) (erased b))) (part_step (Formula-F.Equal a b)) (ap part_of (shape-Equal a b) ∙ there (erased a) (erased b)) (there a b)
     (alone_same (λ ts next. bare (Equal (put ts (erased a)) (put ts (erased b)))) (λ ts next. bare (Equal (put ts a) (put ts b)))
-    (λ ts next. ap bare (ap (λ (c : Term). Equal c (put (map erased ts) (erased b))) (sym (put_erased ts a)) ∙ ap (Equal (erased (put ts a))) (sym (put_erased ts b)) ∙ sym (shape-Equal (put ts a) (put ts b)))))
+    (λ ts next. ap bare (ap (λ (c : Term). Equal c (put (map erased ts) (erased b))) (sym (put_erased ts a))
+    ∙ ap (Equal (erased (put ts a))) (sym (put_erased ts b)) ∙ sym (shape-Equal (put ts a) (put ts b)))))
 
 not_same : (p : Formula) → IsSame p → IsSame (Not p)
 not_same p h =
     let there : (q : Formula) → part_of (Not q) ≡ part_step (Formula-F.Not (part_of q)) = λ q. search (rules, the_lemmas) in
     by (Not p) (part_step (Formula-F.Not (part_of (shape p)))) (part_step (Formula-F.Not (part_of p))) (ap part_of (shape-Not p) ∙ there (shape p)) (there p)
     (alone_same (λ ts next. negated ((part_of (shape p)).pulled ts next)) (λ ts next. negated ((part_of p).pulled ts next))
-    (λ ts next. ap negated (h.pulled ts next) ∙ ap (λ (f : Formula). record { vars = ((part_of p).pulled ts next).vars; formula = f }) (sym (shape-Not ((part_of p).pulled ts next).formula))))
+    (λ ts next. ap negated (h.pulled ts next)
+    ∙ ap (λ (f : Formula). record { vars = ((part_of p).pulled ts next).vars; formula = f }) (sym (shape-Not ((part_of p).pulled ts next).formula))))
 
-all_pulled : (ps : List Formula) → AllByRecursion IsSame ps → (ts : List Term) (next : ℕ) → pulled_all (map part_of (map shape ps)) (map erased ts) next ≡ all_shape (pulled_all (map part_of ps) ts next)
+all_pulled : (ps : List Formula) → AllByRecursion IsSame ps → (ts : List Term) (next : ℕ) → pulled_all (map part_of (map shape ps)) (map erased ts) next
+    ≡ all_shape (pulled_all (map part_of ps) ts next)
 all_pulled [] h ts next = refl
 all_pulled (p ∷ ps) h ts next =
     let k = (part_of p).pulled ts next in
@@ -98,7 +103,8 @@ all_pulled (p ∷ ps) h ts next =
     ap (λ (x : Pulled). before x (pulled_all rest (map erased ts) (next + length x.vars))) (h.0.pulled ts next)
     ∙ ap (before (pulled_shape k)) (all_pulled ps h.1 ts (next + length k.vars))
 
-all_pieces : (n : ℕ) (ps : List Formula) → AllByRecursion IsSame ps → flat_map (λ (p : Part). p.pieces n) (map part_of (map shape ps)) ≡ map piece_shape (flat_map (λ (p : Part). p.pieces n) (map part_of ps))
+all_pieces : (n : ℕ) (ps : List Formula) → AllByRecursion IsSame ps → flat_map (λ (p : Part). p.pieces n) (map part_of (map shape ps))
+    ≡ map piece_shape (flat_map (λ (p : Part). p.pieces n) (map part_of ps))
 all_pieces n [] h = refl
 all_pieces n (p ∷ ps) h =
     ap (λ (xs : List Piece). xs ++ flat_map (λ (q : Part). q.pieces n) (map part_of (map shape ps))) (h.0.pieces n)
@@ -143,7 +149,8 @@ bound_same n b p =
 
 each_bound : (n : ℕ) (b : Binder) (ps : List Piece) → map (bound n b) (map piece_shape ps) ≡ map piece_shape (map (bound n b) ps)
 each_bound n b [] = refl
-each_bound n b (p ∷ ps) = ap (λ (x : Piece). x ∷ map (bound n b) (map piece_shape ps)) (bound_same n b p) ∙ ap (λ (xs : List Piece). piece_shape (bound n b p) ∷ xs) (each_bound n b ps)
+each_bound n b (p ∷ ps) = ap (λ (x : Piece). x ∷ map (bound n b) (map piece_shape ps)) (bound_same n b p)
+    ∙ ap (λ (xs : List Piece). piece_shape (bound n b p) ∷ xs) (each_bound n b ps)
 
 all_bound : (n : ℕ) (bs : List Binder) (ps : List Piece) → bound_all n bs (map piece_shape ps) ≡ map piece_shape (bound_all n bs ps)
 all_bound n [] ps = refl
@@ -158,7 +165,8 @@ for_all_same bs p h =
     by (ForAll bs p) (part_step (Formula-F.ForAll bs a)) (part_step (Formula-F.ForAll bs b)) (ap part_of (shape-ForAll bs p) ∙ there (shape p)) (there p)
     (record {
       pulled = λ ts next.
-          ap (λ (us : List Term). behind bs (a.pulled us (next + count))) (sym (wider_erased ts next count)) ∙ ap (behind bs) (h.pulled (ts ++ variables next count) (next + count));
+          ap (λ (us : List Term). behind bs (a.pulled us (next + count))) (sym (wider_erased ts next count))
+          ∙ ap (behind bs) (h.pulled (ts ++ variables next count) (next + count));
       pieces = λ n. ap (bound_all n bs) (h.pieces (n + count)) ∙ all_bound n bs (b.pieces (n + count));
     })
 

@@ -25,7 +25,8 @@ use Rattle.sw_size_laws.proofs.PieceShapes.{vars_of, vars_alike}
 abbrev pub AreAlike : List Term → List Term → Type 0
 AreAlike ts us = map erased ts ≡ map erased us
 
-read_erased : (occurs : ℕ → Bool) (u from : ℕ) (ts : List Term) → list_any (λ t. occurs t.0 && has u t.1) (enumerate_from from (map erased ts)) ≡ list_any (λ t. occurs t.0 && has u t.1) (enumerate_from from ts)
+read_erased : (occurs : ℕ → Bool) (u from : ℕ) (ts : List Term) → list_any (λ t. occurs t.0 && has u t.1) (enumerate_from from (map erased ts))
+    ≡ list_any (λ t. occurs t.0 && has u t.1) (enumerate_from from ts)
 read_erased occurs u from [] = refl
 read_erased occurs u from (t ∷ ts) =
     ap (λ (b : Bool). (occurs from && b) || list_any (λ x. occurs x.0 && has u x.1) (enumerate_from (from + 1) (map erased ts))) (has_erased u t)
@@ -42,7 +43,8 @@ universals_erased occurs ts count =
     (λ u. read_erased occurs u 0 ts) (range_with_len 0 count)
 
 universals_alike : (occurs : ℕ → Bool) (ts us : List Term) (count : ℕ) → AreAlike ts us → universals occurs ts count ≡ universals occurs us count
-universals_alike occurs ts us count e = sym (universals_erased occurs ts count) ∙ ap (λ (xs : List Term). universals occurs xs count) e ∙ universals_erased occurs us count
+universals_alike occurs ts us count e = sym (universals_erased occurs ts count) ∙ ap (λ (xs : List Term). universals occurs xs count) e
+    ∙ universals_erased occurs us count
 
 skolem_alike : (us : List ℕ) (a b count : ℕ) → AreAlike (skolem_terms us a count) (skolem_terms us b count)
 skolem_alike us a b zero = refl
@@ -77,7 +79,8 @@ AddsSame p = (ts us : List Term) (sorts : List ℕ) (made : List Symbol) → Are
 kept_same : (made : List Symbol) (f g : Formula) → shape f ≡ shape g → Grows made (form f made) (form g [])
 kept_same made f g e = record { symbols = sym (append-nil made); formula = e }
 
-forms_same : (ps : List Part) → AllByRecursion AddsSame ps → (ts us : List Term) (sorts : List ℕ) (made : List Symbol) → AreAlike ts us → AllGrow made (forms ps ts sorts made) (forms ps us sorts [])
+forms_same : (ps : List Part) → AllByRecursion AddsSame ps → (ts us : List Term) (sorts : List ℕ) (made : List Symbol) → AreAlike ts us
+    → AllGrow made (forms ps ts sorts made) (forms ps us sorts [])
 forms_same [] h ts us sorts made e = record { symbols = sym (append-nil made); formulas = refl }
 forms_same (p ∷ ps) h ts us sorts made e =
     let here = h.0 ts us sorts made e in
@@ -86,7 +89,8 @@ forms_same (p ∷ ps) h ts us sorts made e =
     let other = forms_same ps h.1 us us sorts first refl in
     let rest = (forms ps us sorts []).made in
     record {
-      symbols = one.symbols ∙ ap (λ (xs : List Symbol). xs ++ rest) here.symbols ∙ append_assoc made first rest ∙ ap (λ (xs : List Symbol). made ++ xs) (sym other.symbols);
+      symbols = one.symbols ∙ ap (λ (xs : List Symbol). xs ++ rest) here.symbols ∙ append_assoc made first rest
+          ∙ ap (λ (xs : List Symbol). made ++ xs) (sym other.symbols);
       formulas =
           ap (λ (f : Formula). f ∷ map shape (forms ps ts sorts (p.form ts sorts made).made).formulas) here.formula
           ∙ ap (λ (fs : List Formula). shape (p.form us sorts []).formula ∷ fs) (one.formulas ∙ sym other.formulas);
@@ -109,7 +113,8 @@ module _ (base : ℕ) where
   equal_same a b =
       let is : part_of base (Equal a b) ≡ part_step base (Formula-F.Equal a b) = search (rules, the_lemmas) in
       subst AddsSame (sym is) (λ ts us sorts made h. kept_same made (Equal (put ts a) (put ts b)) (Equal (put us a) (put us b))
-      (shape-Equal (put ts a) (put ts b) ∙ ap (λ (c : Term). Equal c (erased (put ts b))) (put_alike ts us a h) ∙ ap (Equal (erased (put us a))) (put_alike ts us b h) ∙ sym (shape-Equal (put us a) (put us b))))
+      (shape-Equal (put ts a) (put ts b) ∙ ap (λ (c : Term). Equal c (erased (put ts b))) (put_alike ts us a h)
+      ∙ ap (Equal (erased (put us a))) (put_alike ts us b h) ∙ sym (shape-Equal (put us a) (put us b))))
 
   not_same : (p : Formula) → IsSame p → IsSame (Not p)
   not_same p k =
@@ -161,7 +166,8 @@ module _ (base : ℕ) where
       let same : vs ≡ ws = universals_alike q.occurs ts us (length sorts) h in
       let more = map (skolem_symbol sorts ws) bs in
       let fresh : ℕ → List Term = λ n. skolem_terms ws (base + n) (length bs) in
-      let one = k (ts ++ fresh (length made)) (us ++ fresh 0) sorts (made ++ more) (both_alike ts us (fresh (length made)) (fresh 0) h (skolem_alike ws (base + length made) (base + 0) (length bs))) in
+      let one = k (ts ++ fresh (length made)) (us ++ fresh 0) sorts (made ++ more)
+      (both_alike ts us (fresh (length made)) (fresh 0) h (skolem_alike ws (base + length made) (base + 0) (length bs))) in
       let other = k (us ++ fresh 0) (us ++ fresh 0) sorts more refl in
       let rest = (q.form (us ++ fresh 0) sorts []).made in
       let grown : Grows made (below base bs q ws ts sorts made) (below base bs q ws us sorts []) = record {
@@ -205,9 +211,11 @@ module _ (base : ℕ) where
   made_apart [] made = sym (append-nil made)
   made_apart (f ∷ fs) made =
       let after = ((part_of base f).form [] [] made).made in
-      made_apart fs after ∙ ap (λ (xs : List Symbol). xs ++ flat_map symbols_of fs) (is_same f [] [] [] made refl).symbols ∙ append_assoc made (symbols_of f) (flat_map symbols_of fs)
+      made_apart fs after ∙ ap (λ (xs : List Symbol). xs ++ flat_map symbols_of fs) (is_same f [] [] [] made refl).symbols
+      ∙ append_assoc made (symbols_of f) (flat_map symbols_of fs)
 
-  pub vars_apart : (fs : List Formula) (made : List Symbol) → map (λ (p : Piece). p.vars) (flat_map (pieces_of 0) (forms (map (part_of base) fs) [] [] made).formulas) ≡ flat_map shapes_of fs
+  pub vars_apart : (fs : List Formula) (made : List Symbol)
+      → map (λ (p : Piece). p.vars) (flat_map (pieces_of 0) (forms (map (part_of base) fs) [] [] made).formulas) ≡ flat_map shapes_of fs
   vars_apart [] made = refl
   vars_apart (f ∷ fs) made =
       let here = (part_of base f).form [] [] made in

@@ -18,7 +18,7 @@ use Rattle.sw_meaning.specs.Classes.{classes}
 use Rattle.sw_meaning.specs.Inductive.{Earned}
 use Rattle.sw_meaning.specs.Plain.{formulas_of}
 use Rattle.sw_queries.specs.Queries.{follow_query_of, step_query_of, join_query_of}
-use Rattle.sw_size_laws.specs.Asked.{IsList, IsCandidate}
+use Rattle.sw_size_laws.specs.Asked.{CanAskUnder, CanAskAbout}
 use Rattle.sw_size_laws.specs.Part.{IsPartOf}
 use Rattle.sw_size_laws.specs.Sizes.{IsNoLarger}
 
@@ -28,12 +28,12 @@ SizesGrow = (q r : Query) → IsQuery r → IsStratifiedQuery r → q.signature 
 
 -- what is asked under a part of a list is no larger than what is asked under the list
 pub record ListsGrow : Type 0 where
-  pub follow : (p : Protocol) (extra : List Edge) (g h : List Formula) (f : Formula) → IsPartOf g h → IsList p extra h → IsCandidate p extra f
+  pub follow : (p : Protocol) (extra : List Edge) (g h : List Formula) (f : Formula) → IsPartOf g h → CanAskUnder p extra h → CanAskAbout p extra f
       → IsNoLarger (follow_query_of p g f) (follow_query_of p h f)
-  pub step : (p : Protocol) (extra : List Edge) (g h : List Formula) (f : Formula) (t : Transition) → IsPartOf g h → IsList p extra h → IsCandidate p extra f → Contains p.transitions t
-      → IsNoLarger (step_query_of p t g f) (step_query_of p t h f)
-  pub join : (p : Protocol) (extra : List Edge) (g h : List Formula) (f : Option Formula) (t : Transition) → IsPartOf g h → IsList p extra h → IfSome f (IsCandidate p extra) → Contains p.transitions t
-      → IsNoLarger (join_query_of p t g f) (join_query_of p t h f)
+  pub step : (p : Protocol) (extra : List Edge) (g h : List Formula) (f : Formula) (t : Transition) → IsPartOf g h → CanAskUnder p extra h → CanAskAbout p extra f
+      → Contains p.transitions t → IsNoLarger (step_query_of p t g f) (step_query_of p t h f)
+  pub join : (p : Protocol) (extra : List Edge) (g h : List Formula) (f : Option Formula) (t : Transition) → IsPartOf g h → CanAskUnder p extra h
+      → IfSome f (CanAskAbout p extra) → Contains p.transitions t → IsNoLarger (join_query_of p t g f) (join_query_of p t h f)
 
 -- these classes, and their formulas, are part of all classes of the template and of their formulas
 pub record IsListedOnce (p : Protocol) (t : Template) (list : List (List ℕ)) : Type 0 where
@@ -42,10 +42,11 @@ pub record IsListedOnce (p : Protocol) (t : Template) (list : List (List ℕ)) :
 
 -- an earned list of classes has each class once at most
 abbrev pub ListedOnce : Type 0
-ListedOnce = (p : Protocol) (t : Template) (list : List (List ℕ)) → AllByRecursion (Contains (classes p.signature t)) list → Earned p (Some t) (formulas_of p t list) → IsListedOnce p t list
+ListedOnce = (p : Protocol) (t : Template) (list : List (List ℕ)) → AllByRecursion (Contains (classes p.signature t)) list → Earned p (Some t) (formulas_of p t list)
+    → IsListedOnce p t list
 
--- no budget is none that is spent, and neither is one of 2^(v + 1) steps where the clauses of the instances have v variables
+-- where there is no budget none is spent; and one of 2^(v + 1) steps is not, where the clauses of the instances have v variables
 pub record BudgetSuffices : Type 0 where
   pub without : (q : Query) (r : Refutation) → IsSpentOn q None r → ⊥
-  pub enough : (q : Query) (most : ℕ) (r : Refutation) (g : Ground) → IsGround (skolem_of q) (universe (skolem_of q)) r.instances g → 2 ^ (g.cnf.variables + 1) ≤ most
-      → IsSpentOn q (Some most) r → ⊥
+  pub enough : (q : Query) (most : ℕ) (r : Refutation) (g : Ground) → IsGround (skolem_of q) (universe (skolem_of q)) r.instances g
+      → 2 ^ (g.cnf.variables + 1) ≤ most → IsSpentOn q (Some most) r → ⊥
