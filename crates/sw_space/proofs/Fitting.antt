@@ -44,7 +44,6 @@ module _ (p : Protocol) where
       (each-weaker (λ run. (0 < run.count) × (run.sort < length p.signature.sorts)) (λ run. run.sort < length p.signature.sorts) (λ run both. both.1) t.prefix is.runs)))
 
 module _ (p : Protocol) (o : Option Template) where
-
   pub stratified : (t : Template) (edges : List Edge) (ranks : List ℕ) → edges ≡ edges_with o t → AreRanks (length p.signature.sorts) (protocol_edges p ++ edges) ranks → IsStratifiedWith p (edges_with o t)
   stratified t edges ranks same are = record { ranks = ranks; are = subst (λ x. AreRanks (length p.signature.sorts) (protocol_edges p ++ x) ranks) same are }
 

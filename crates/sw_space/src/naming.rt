@@ -46,7 +46,7 @@ fn edges_with(
     beside: Option<&Template>,
     template: &Template,
 ) -> Result<Items<Edge>, AllocError>
-    ensures { IfOk result (λ es. es ≡ edges_with (option_copied beside) template.now) }
+    ensures { IfOk result (λ es. es ≡ edges_with (option_copied beside.entry) template.now) }
 {
     match beside {
         Some(other) => {
@@ -70,7 +70,7 @@ fn fitted(
     requires template { IsTemplate protocol.now.signature template }
     requires sorts { length protocol.now.signature.sorts < 2 ^ 32 }
     requires symbols { length protocol.now.signature.symbols < 2 ^ 32 }
-    ensures fits { IfSome (answer_of result) (Fits protocol.now (option_copied beside) template) }
+    ensures fits { IfSome (answer_of result) (Fits protocol.now (option_copied beside.entry) template) }
     ensures space { IfOk result (IsSpaceOf protocol.now.signature template) }
 {
     let edges = edges_with(alloc, beside, &template)?;
@@ -91,7 +91,7 @@ fn read(
 ) -> Result<Space, NoSpace>
     requires well_formed { IsWellFormed protocol.now }
     requires over { IfSome (option_copied beside) (IsOver protocol.now.signature) }
-    ensures has { IfSome (answer_of result) (HasSpace protocol.now (option_copied beside) text.now) }
+    ensures has { IfSome (answer_of result) (HasSpace protocol.now (option_copied beside.entry) text.now) }
     ensures space { IfOk result (λ s. IsSpaceOf protocol.now.signature s.template s) }
 {
     let signature = &protocol.signature;
@@ -114,8 +114,8 @@ pub fn space_of(
 ) -> Result<Space, NoSpace>
     requires well_formed { IsWellFormed protocol.now }
     requires over { IfSome (option_copied beside) (IsOver protocol.now.signature) }
-    ensures has { IfSome (answer_of result) (HasSpace protocol.now (option_copied beside) text.now) }
-    ensures no_other { (r : Result Template SpaceFault) → HasSpace protocol.now (option_copied beside) text.now r → IfSome (answer_of result) (λ s. s ≡ r) }
+    ensures has { IfSome (answer_of result) (HasSpace protocol.now (option_copied beside.entry) text.now) }
+    ensures no_other { (r : Result Template SpaceFault) → HasSpace protocol.now (option_copied beside.entry) text.now r → IfSome (answer_of result) (λ s. s ≡ r) }
     ensures space { IfOk result (λ s. IsSpaceOf protocol.now.signature s.template s) }
 {
     one_space();
