@@ -1,5 +1,5 @@
 -- The causes of different answers exclude each other.
-use Rattle.std.specs.Prelude.{◌≡◌, ◌⊎◌, ℕ, ◌+◌, ◌<◌, ◌≤◌, true, false, List, ◌++◌, length, Option, Some, None, IfSome, Result, Ok, Err, option_map}
+use Rattle.std.specs.Prelude.{◌≡◌, ◌⊎◌, ℕ, ◌+◌, ◌<◌, ◌≤◌, true, false, List, ◌++◌, length, Option, Some, None, IfSome, Ok, Err, option_map}
 use Rattle.std.proofs.Common.{refl, arith, sym, ap, ◌∙◌, subst, inl, inr, length-append}
 use Rattle.std.proofs.lemmas.Bool.{false≢true}
 use Rattle.std.proofs.lemmas.Option.{same_Some}
@@ -187,22 +187,22 @@ search_chooses : (options : Options) (p : Protocol) (a : Answer) → SearchChoos
 search_chooses options p a = record { told = told; breadth_faulty = breadth_faulty; finish_faulty = finish_faulty }
   where
     told : (t u : Option Template) → NamesBy options p t u → Searches options p a → Reports options p a ⊎ Stops options p a
-    told t u named (Searches.report r) = inl r
-    told t u named (Searches.stopped s) = inr s
-    told t u named (Searches.breadth_faulty f has is) = absurd (named_not_faulty options.breadth p None t f named.breadth has)
-    told t u named (Searches.finish_faulty v f by has is) = absurd (named_not_unfinished options p t u v f named by has)
+    told t u by (Searches.report r) = inl r
+    told t u by (Searches.stopped s) = inr s
+    told t u by (Searches.breadth_faulty f has is) = absurd (named_not_faulty options.breadth p None t f by.breadth has)
+    told t u both (Searches.finish_faulty v f by has is) = absurd (named_not_unfinished options p t u v f both by has)
 
     breadth_faulty : (f : SpaceFault) → NamesFault options.breadth p None f → Searches options p a → a ≡ refused (BreadthFaulty f)
     breadth_faulty f has (Searches.report r) = absurd (named_not_faulty options.breadth p None r.breadth f r.named.breadth has)
     breadth_faulty f has (Searches.stopped s) = absurd (named_not_faulty options.breadth p None s.breadth f s.named.breadth has)
     breadth_faulty f has (Searches.breadth_faulty g has' is) = is ∙ ap (λ x. refused (BreadthFaulty x)) (one_named_fault options.breadth p None g f has' has)
-    breadth_faulty f has (Searches.finish_faulty t g named has' is) = absurd (named_not_faulty options.breadth p None t f named has)
+    breadth_faulty f has (Searches.finish_faulty t g by has' is) = absurd (named_not_faulty options.breadth p None t f by has)
 
     finish_faulty : (t : Option Template) (f : SpaceFault) → Names options.breadth p None t → NamesFault options.finish p t f → Searches options p a → a ≡ refused (FinishFaulty f)
-    finish_faulty t f named has (Searches.report r) = absurd (named_not_unfinished options p r.breadth r.finish t f r.named named has)
-    finish_faulty t f named has (Searches.stopped s) = absurd (named_not_unfinished options p s.breadth s.finish t f s.named named has)
-    finish_faulty t f named has (Searches.breadth_faulty g has' is) = absurd (named_not_faulty options.breadth p None t g named has')
-    finish_faulty t f named has (Searches.finish_faulty v g named' has' is) = is ∙ ap (λ x. refused (FinishFaulty x)) (one_finish_fault options p v t g f named' named has' has)
+    finish_faulty t f by has (Searches.report r) = absurd (named_not_unfinished options p r.breadth r.finish t f r.named by has)
+    finish_faulty t f by has (Searches.stopped s) = absurd (named_not_unfinished options p s.breadth s.finish t f s.named by has)
+    finish_faulty t f by has (Searches.breadth_faulty g has' is) = absurd (named_not_faulty options.breadth p None t g by has')
+    finish_faulty t f by has (Searches.finish_faulty v g by' has' is) = is ∙ ap (λ x. refused (FinishFaulty x)) (one_finish_fault options p v t g f by' by has' has)
 
 pub size_chooses : (text : List ℕ) (p : Protocol) (a : Answer) → SizeChooses text p a
 size_chooses text p a = record { sizes = sizes; faulty = faulty }

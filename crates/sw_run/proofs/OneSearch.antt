@@ -1,11 +1,11 @@
 -- A protocol has one answer to a search, but for a query that ended it.
-use Rattle.std.specs.Prelude.{◌≡◌, ◌⊎◌, ℕ, ◌<◌, ◌≤◌, length, Option, None}
+use Rattle.std.specs.Prelude.{◌≡◌, ◌⊎◌, ℕ, length, Option, None}
 use Rattle.std.proofs.Common.{arith, sym, ap, ◌∙◌, inl, inr}
 use Rattle.sw_meaning.specs.declared.protocol.Protocol.{Protocol}
 use Rattle.sw_meaning.specs.declared.template.Template.{Template}
 use Rattle.sw_words.specs.declared.commands.Options.{Options}
 use Rattle.sw_report.specs.Words.{text_over_line}
-use Rattle.sw_search.specs.Searches.{IsStopped, IsTextOver, IsReport}
+use Rattle.sw_search.specs.Searches.{IsStopped, IsTextOver}
 use Rattle.sw_search.proofs.OneReport as search
 use Rattle.sw_run.specs.Ending.{Answer, Searches, Reports, Stops, refused, stop}
 use Rattle.sw_run.specs.Laws.{IsEnded}
@@ -61,14 +61,14 @@ module _ (options : Options) (p : Protocol) where
   one_search a b (Searches.stopped x) (Searches.stopped y) = both_stop a b x y (stop_kind a x) (stop_kind b y)
   one_search a b (Searches.report x) (Searches.breadth_faulty f has is) = absurd (named_not_faulty options.breadth p None x.breadth f x.named.breadth has)
   one_search a b (Searches.stopped x) (Searches.breadth_faulty f has is) = absurd (named_not_faulty options.breadth p None x.breadth f x.named.breadth has)
-  one_search a b (Searches.report x) (Searches.finish_faulty t f named has is) = absurd (named_not_unfinished options p x.breadth x.finish t f x.named named has)
-  one_search a b (Searches.stopped x) (Searches.finish_faulty t f named has is) = absurd (named_not_unfinished options p x.breadth x.finish t f x.named named has)
+  one_search a b (Searches.report x) (Searches.finish_faulty t f by has is) = absurd (named_not_unfinished options p x.breadth x.finish t f x.named by has)
+  one_search a b (Searches.stopped x) (Searches.finish_faulty t f by has is) = absurd (named_not_unfinished options p x.breadth x.finish t f x.named by has)
   one_search a b (Searches.breadth_faulty f has is) (Searches.report y) = absurd (named_not_faulty options.breadth p None y.breadth f y.named.breadth has)
   one_search a b (Searches.breadth_faulty f has is) (Searches.stopped y) = absurd (named_not_faulty options.breadth p None y.breadth f y.named.breadth has)
   one_search a b (Searches.breadth_faulty f has is) (Searches.breadth_faulty g has' is') = inr (is ∙ (ap (λ x. refused (BreadthFaulty x)) (one_named_fault options.breadth p None f g has has') ∙ sym is'))
-  one_search a b (Searches.breadth_faulty f has is) (Searches.finish_faulty t g named has' is') = absurd (named_not_faulty options.breadth p None t f named has)
-  one_search a b (Searches.finish_faulty t f named has is) (Searches.report y) = absurd (named_not_unfinished options p y.breadth y.finish t f y.named named has)
-  one_search a b (Searches.finish_faulty t f named has is) (Searches.stopped y) = absurd (named_not_unfinished options p y.breadth y.finish t f y.named named has)
-  one_search a b (Searches.finish_faulty t f named has is) (Searches.breadth_faulty g has' is') = absurd (named_not_faulty options.breadth p None t g named has')
-  one_search a b (Searches.finish_faulty t f named has is) (Searches.finish_faulty v g named' has' is') =
-      inr (is ∙ (ap (λ x. refused (FinishFaulty x)) (one_finish_fault options p t v f g named named' has has') ∙ sym is'))
+  one_search a b (Searches.breadth_faulty f has is) (Searches.finish_faulty t g by has' is') = absurd (named_not_faulty options.breadth p None t f by has)
+  one_search a b (Searches.finish_faulty t f by has is) (Searches.report y) = absurd (named_not_unfinished options p y.breadth y.finish t f y.named by has)
+  one_search a b (Searches.finish_faulty t f by has is) (Searches.stopped y) = absurd (named_not_unfinished options p y.breadth y.finish t f y.named by has)
+  one_search a b (Searches.finish_faulty t f by has is) (Searches.breadth_faulty g has' is') = absurd (named_not_faulty options.breadth p None t g by has')
+  one_search a b (Searches.finish_faulty t f by has is) (Searches.finish_faulty v g by' has' is') =
+      inr (is ∙ (ap (λ x. refused (FinishFaulty x)) (one_finish_fault options p t v f g by by' has has') ∙ sym is'))

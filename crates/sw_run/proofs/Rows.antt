@@ -1,5 +1,5 @@
 -- What errors and answers of parts are told as, by the rows of the table of causes.
-use Rattle.std.specs.Prelude.{◌≡◌, ◌⊎◌, ℕ, ◌++◌, ◌<◌, ◌≤◌, ◌^◌, true, false, List, [], length, Option, Some, IfSome, IfErr, Result, Ok, Err, IsErrAnd}
+use Rattle.std.specs.Prelude.{◌≡◌, ◌⊎◌, ℕ, ◌++◌, true, false, List, [], length, Option, Some, None, IfSome, IfErr, Result, Ok, Err, IsErrAnd}
 use Rattle.std.proofs.Common.{refl, sym, ap, ◌∙◌, subst, inl, inr, append-nil}
 use Rattle.std.proofs.lemmas.Bool.{false≢true}
 use Rattle.sw_meaning.specs.declared.protocol.Protocol.{Protocol}
@@ -17,7 +17,8 @@ use Rattle.sw_words.specs.declared.commands.Command.{Command}
 use Rattle.sw_words.specs.declared.commands.Command.TheVariants.{Synth, Certify, Space, Print, Check, Drill}
 use Rattle.sw_words.specs.declared.commands.Options.{Options}
 use Rattle.sw_run.specs.Words.{has_one_worker, is_check, is_served}
-use Rattle.sw_run.specs.Ending.{Change, Answer, Faults, Misreads, Reads, Searches, NamesBy, IsBreadthFault, Prints, Sizes, IsInput, IsSpelled, IsUntouched, Allowed, AllowedCheck, refused, answer_of, told_answer}
+use Rattle.sw_run.specs.Ending.{Change, Answer, Faults, Misreads, Reads, Searches, Names, NamesFault, NamesBy, Prints, Sizes, IsInput, IsSpelled, IsUntouched, Allowed, AllowedCheck, refused, answer_of, told_answer}
+use Rattle.sw_run.specs.Giving.{Gives, GivesNone}
 use Rattle.sw_run.specs.Refusals.{input_refusal, space_refusal}
 use Rattle.sw_meaning.specs.Classes.{atoms, classes_of}
 use Rattle.sw_enumerate.specs.Spaces.{Made, IsSpaceOf, classes_in}
@@ -27,20 +28,13 @@ use Rattle.sw_space.specs.Lines.{numbers_text, sizes_of}
 use Rattle.sw_space.specs.Named.{HasSpace, answer_of as space_answer}
 use Rattle.sw_run.specs.declared.report.Report.{Report}
 use Rattle.sw_run.specs.declared.told.Refusal.{Refusal}
-use Rattle.sw_run.specs.declared.told.Refusal.TheVariants.{NotStratified, BreadthFaulty, Unbuilt, NoMemory}
+use Rattle.sw_run.specs.declared.told.Refusal.TheVariants.{NotStratified, Unbuilt, NoMemory}
 use Rattle.sw_meaning.specs.declared.template.Template.{Template}
-use Rattle.sw_meaning.specs.Edges.{IsStratifiedWith}
-use Rattle.sw_template.specs.Edges.{template_edges}
 use Rattle.sw_space.specs.declared.faults.SpaceFault.{SpaceFault}
-use Rattle.sw_space.specs.Named.{Fits, IsWithinLimits}
 use Rattle.sw_search.specs.declared.telling.Told.{Told}
 use Rattle.sw_search.specs.declared.telling.Told.TheVariants as telling
 use Rattle.sw_search.specs.Searches.{IsTold}
-use Rattle.sw_search.specs.Spaces.{IsSearchable}
-use Rattle.sw_template_text.specs.Texts.{IsTemplate}
-use Rattle.sw_template_text.proofs.OneTemplate.{texts_are_templates}
-use Rattle.sw_lists.proofs.Each.{each-weaker}
-use Rattle.sw_meaning.specs.declared.template.Run.{Run}
+use Rattle.sw_search.specs.Spaces.{template_of}
 
 -- ---- the input
 
@@ -145,6 +139,22 @@ pub answer_searches : (o : Options) (p : Protocol) (first last : Option Made) (t
     → IsTold p (template_of first) (template_of last) o.conflicts told → answer_of r ≡ told_answer told → Searches o p (answer_of r) ⊎ (r ≡ Err NoMemory)
 answer_searches o p first last told r breadth finish is same =
     inl (subst (Searches o p) (sym same) (told_searches o p (template_of first) (template_of last) told (record { breadth = breadth.named; finish = finish.named }) is))
+
+-- the space of the text that an option gives
+pub given_space : (given : Option (List ℕ)) (p : Protocol) (beside : Option Template) (text : List ℕ) (s : Made) → given ≡ Some text → HasSpace p beside text (Ok s.template) → IsSpaceOf p.signature s.template s
+    → Gives given p beside (Some s)
+given_space given p beside text s is has made = record { named = Names.named text s.template is has refl; made = made }
+
+-- the same of what is the same
+pub gives_same : (given : Option (List ℕ)) (p : Protocol) (t u : Option Template) (x y : Option Made) → t ≡ u → y ≡ x → Gives given p t x → Gives given p u y
+gives_same given p t u x y beside same gives = subst (λ o. Gives given p o y) beside (subst (Gives given p t) (sym same) gives)
+
+-- why that text gives none, passed on
+pub given_none : (given : Option (List ℕ)) (p : Protocol) (beside : Option Template) (text : List ℕ) (e : NoSpace) (r : Result (Option Made) NoSpace) → given ≡ Some text → IsErrAnd r (λ x. x ≡ e)
+    → IfSome (space_answer (Err e)) (HasSpace p beside text) → IfErr r (GivesNone given p beside)
+given_none given p beside text e (Ok s) is passed has = absurd passed
+given_none given p beside text (no_space.Faulty f) (Err x) is passed has = subst (GivesNone given p beside) (sym passed) (text, is, has)
+given_none given p beside text no_space.Memory (Err x) is passed has = subst (GivesNone given p beside) (sym passed) tt
 
 -- the fault of an option's text
 pub fault_named : (given : Option (List ℕ)) (p : Protocol) (beside : Option Template) (e : NoSpace) (f : SpaceFault) → e ≡ no_space.Faulty f → GivesNone given p beside e → NamesFault given p beside f

@@ -1,7 +1,6 @@
 -- The spaces that the options give can be searched.
-use Rattle.std.specs.Prelude.{◌≡◌, ℕ, ◌<◌, ◌≤◌, ◌^◌, List, [], ◌++◌, length, Option, Some, None, IfSome, Result, Ok, Err, Contains}
+use Rattle.std.specs.Prelude.{◌≡◌, ℕ, ◌<◌, ◌≤◌, ◌^◌, List, [], ◌++◌, length, Option, Some, None, IfSome, Result, Ok, Contains}
 use Rattle.std.proofs.Common.{refl, sym, subst}
-use Rattle.std.proofs.lemmas.Option.{same_Some}
 use Rattle.sw_lists.proofs.Each.{each-weaker, each-front, each-back, each-contained}
 use Rattle.sw_logic.specs.declared.syntax.Edge.{Edge}
 use Rattle.sw_meaning.specs.declared.protocol.Protocol.{Protocol}
@@ -56,7 +55,7 @@ some_over p beside (Some t) suits = suits.over
 
 -- a template that an option names is over sorts that there are
 pub name_over : (given : Option (List ℕ)) (p : Protocol) (beside t : Option Template) → Names given p beside t → IfSome t (IsOver p.signature)
-name_over given p beside t named = some_over p beside t (name_suits given p beside t named)
+name_over given p beside t by = some_over p beside t (name_suits given p beside t by)
 
 searchable : (p : Protocol) (beside : Option Template) (s : Made) (extra : List Edge) → Suits p beside s.template → IsSpaceOf p.signature s.template s → AreAmong (template_edges s.template) extra
     → IsSearchable p extra s
