@@ -1,1 +1,5 @@
 pub mod OneReport
+pub mod Lists
+pub mod Searchable
+pub mod Breadth
+pub mod Finish

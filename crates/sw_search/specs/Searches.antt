@@ -14,8 +14,7 @@ use Rattle.sw_meaning.specs.Report.{report_text}
 use Rattle.sw_truth.specs.declared.instances.Refutation.{Refutation}
 use Rattle.sw_universe.specs.declared.sizes.Size.{Size}
 use Rattle.sw_report.specs.declared.report.TheConstants.{OUTPUT_LIMIT}
-use Rattle.sw_report.specs.declared.report.Word.{Word as Named}
-use Rattle.sw_report.specs.Words.{Query as Asked, word_of, word_status, spent_line, too_large_line, text_over_line}
+use Rattle.sw_report.specs.Words.{Query as Asked, word_status, spent_line, too_large_line, text_over_line}
 use Rattle.sw_verdict.specs.declared.judging.SafetyQuery.{SafetyQuery}
 use Rattle.sw_verdict.specs.declared.judging.SafetyQuery.TheVariants.{Start, Step}
 use Rattle.sw_verdict.specs.Judgement.{IsSpentBy, IsTooLargeBy, Ends}
