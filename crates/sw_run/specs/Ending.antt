@@ -200,6 +200,7 @@ pub data TellsLine (text : List ℕ) (whole : ℕ) (err : Change) (status : ℕ)
   its_line : Writes err text whole status → TellsLine text whole err status
   no_memory : Writes err (refusal_line NoMemory) (refusal_status NoMemory) status → TellsLine text whole err status
 
+-- the same of the line of a refusal
 abbrev pub TellsRefusal : Refusal → Change → ℕ → Type 0
 TellsRefusal refusal = TellsLine (refusal_line refusal) (refusal_status refusal)
 
