@@ -2,10 +2,10 @@ use Rattle.std.proofs.Common.{refl, rules, tests}
 use Rattle.sw_words.specs.declared.commands.Command.TheVariants.{Synth}
 use Rattle.sw_run.specs.Ending.{Allowed}
 use Rattle.sw_run.proofs.Rows.{synth_row, not_read, was_read}
-use Rattle.sw_run.proofs.answer.search.Goals as goal
+use Rattle.sw_run.proofs.answer.synth.Goals as goal
 
-pub returns-then-not-is_plain : goal.returns-then-not-is_plain
-returns-then-not-is_plain g c = Allowed.unserved (Synth c.args.options.now) refl (search (rules, tests)) (record { bytes = refl; faults = refl }) refl
+pub returns-then-not-has_one_worker : goal.returns-then-not-has_one_worker
+returns-then-not-has_one_worker g c = Allowed.unserved (Synth c.args.options.now) refl (search (rules, tests)) (record { bytes = refl; faults = refl }) refl
 
 pub returns-in_err-protocol : goal.returns-in_err-protocol
 returns-in_err-protocol g c =
