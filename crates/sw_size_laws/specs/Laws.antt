@@ -6,8 +6,10 @@ use Rattle.sw_logic.specs.declared.syntax.Formula.{Formula}
 use Rattle.sw_logic.specs.declared.query.Query.{Query}
 use Rattle.sw_logic.specs.Queries.{IsQuery}
 use Rattle.sw_truth.specs.declared.instances.Ground.{Ground}
+use Rattle.sw_truth.specs.declared.instances.Instance.{Instance}
 use Rattle.sw_truth.specs.declared.instances.Refutation.{Refutation}
 use Rattle.sw_skolem.specs.Skolem.{skolem_of}
+use Rattle.sw_instances.specs.AllInstances.{instances_of}
 use Rattle.sw_instances.specs.Numbered.{IsGround}
 use Rattle.sw_ground.specs.Verdict.{IsStratifiedQuery, universe}
 use Rattle.sw_decide.specs.Decision.{IsSpentOn}
@@ -45,8 +47,12 @@ abbrev pub ListedOnce : Type 0
 ListedOnce = (p : Protocol) (t : Template) (list : List (List ℕ)) → AllByRecursion (Contains (classes p.signature t)) list → Earned p (Some t) (formulas_of p t list)
     → IsListedOnce p t list
 
--- where there is no budget none is spent; and one of 2^(v + 1) steps is not, where the clauses of the instances have v variables
+-- all instances of a query's Skolem form
+abbrev pub all_instances_of : Query → List Instance
+all_instances_of q = instances_of (skolem_of q) (universe (skolem_of q))
+
+-- where there is no budget none is spent; and one of 2^(v + 1) steps is not, where the clauses of all instances have v variables
 pub record BudgetSuffices : Type 0 where
   pub without : (q : Query) (r : Refutation) → IsSpentOn q None r → ⊥
-  pub enough : (q : Query) (most : ℕ) (r : Refutation) (g : Ground) → IsGround (skolem_of q) (universe (skolem_of q)) r.instances g
+  pub enough : (q : Query) (most : ℕ) (r : Refutation) (g : Ground) → IsGround (skolem_of q) (universe (skolem_of q)) (all_instances_of q) g
       → 2 ^ (g.cnf.variables + 1) ≤ most → IsSpentOn q (Some most) r → ⊥
