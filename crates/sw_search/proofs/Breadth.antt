@@ -1,5 +1,6 @@
 -- What the plain pass says of its list, and of the query that ended it.
-use Rattle.std.specs.Prelude.{◌≡◌, ℕ, List, [], ◌∷◌, ◌++◌, map, Option, Some, None, unwrap_or}
+use Rattle.std.specs.Prelude.{◌≡◌, ℕ, List, [], ◌∷◌, ◌++◌, map, Option, Some, None, unwrap_or, Contains}
+use Rattle.std.specs.List.{AllByRecursion}
 use Rattle.std.proofs.Common.{refl, sym, ap, subst, ◌∙◌}
 use Rattle.std.proofs.lemmas.List.{map-append}
 use Rattle.sw_logic.specs.declared.syntax.Formula.{Formula}
@@ -58,6 +59,10 @@ module _ (p : Protocol) (s : Made) (ok : IsWellFormed p) (can : CanSearch p (Som
     subst (λ (fs : List Formula). EarnedAfter p (Some t) fs (formulas_of p t g)) (map-append (formula_of p.signature t) before (c ∷ [])) (earned_of (before ++ c ∷ []) g e.2),
   )
 
+  listed_of : (before g : List (List ℕ)) → AreEarned p t (parts_in s) before g → AllByRecursion (Contains (classes p.signature t)) g
+  listed_of before [] e = tt
+  listed_of before (c ∷ g) e = (among p can.extra s ok can.breadth c e.0, listed_of (before ++ c ∷ []) g e.2)
+
   module _ (budget : Option ℕ) (name : QueryName) (list : List Class) where
     pub spent_in : (r : Refutation) → IsCause p t (parts_in s) budget (PlainList p t) (Spent name list r) → InBreadth p t name (EndsBy budget (Ended.spent (unwrap_or budget 0)))
     spent_in r c =
@@ -65,6 +70,7 @@ module _ (p : Protocol) (s : Made) (ok : IsWellFormed p) (can : CanSearch p (Som
         record {
           list = c.list;
           on_the_way = c.on_the_way;
+          listed = listed_of [] c.list a.earned;
           earned = earned_of [] c.list a.earned;
           class = a.body;
           among = among p can.extra s ok can.breadth a.body.cubes a.class.among;
@@ -79,6 +85,7 @@ module _ (p : Protocol) (s : Made) (ok : IsWellFormed p) (can : CanSearch p (Som
         record {
           list = c.list;
           on_the_way = c.on_the_way;
+          listed = listed_of [] c.list a.earned;
           earned = earned_of [] c.list a.earned;
           class = a.body;
           among = among p can.extra s ok can.breadth a.body.cubes a.class.among;
