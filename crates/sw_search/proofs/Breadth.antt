@@ -6,7 +6,7 @@ use Rattle.std.proofs.lemmas.List.{map-append}
 use Rattle.sw_logic.specs.declared.syntax.Formula.{Formula}
 use Rattle.sw_meaning.specs.declared.protocol.Protocol.{Protocol}
 use Rattle.sw_meaning.specs.declared.template.Template.{Template}
-use Rattle.sw_meaning.specs.Classes.{formula_of}
+use Rattle.sw_meaning.specs.Classes.{classes, formula_of}
 use Rattle.sw_meaning.specs.Inductive.{EarnedAfter}
 use Rattle.sw_meaning.specs.Plain.{PlainList, formulas_of}
 use Rattle.sw_meaning.specs.WellFormed.{IsWellFormed}
