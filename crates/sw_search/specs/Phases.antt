@@ -15,6 +15,7 @@ use Rattle.sw_search.specs.declared.finishing.Finished.TheVariants as finished
 use Rattle.sw_search.specs.Searches.{IsList, HasVerdict, Ended, IsStopped}
 use Rattle.sw_search.specs.Spaces.{CanSearch, template_of}
 
+-- how a query ended a search, as it is told
 abbrev pub ended_of : Ending → Ended
 ended_of (ending.Spent most) = Ended.spent most
 ended_of (ending.TooLarge size) = Ended.too_large size

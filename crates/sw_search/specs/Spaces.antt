@@ -35,6 +35,7 @@ pub record CanSearch (p : Protocol) (first last : Option Made) : Type 0 where
   pub breadth : IfSome first (IsSearchable p extra)
   pub finish : IfSome last (IsSearchable p extra)
 
+-- the template of a space, if there is one
 abbrev pub template_of : Option Made → Option Template
 template_of None = None
 template_of (Some s) = Some s.template
