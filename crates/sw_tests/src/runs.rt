@@ -26,6 +26,10 @@ const PIGEONS: &str =
 const FORTY: &str =
     "sort s; immutable constant c0: s; immutable constant c1: s; immutable constant c2: s; immutable constant c3: s; immutable constant c4: s; immutable constant c5: s; immutable constant c6: s; immutable constant c7: s; immutable constant c8: s; immutable constant c9: s; immutable constant c10: s; immutable constant c11: s; immutable constant c12: s; immutable constant c13: s; immutable constant c14: s; immutable constant c15: s; immutable constant c16: s; immutable constant c17: s; immutable constant c18: s; immutable constant c19: s; immutable constant c20: s; immutable constant c21: s; immutable constant c22: s; immutable constant c23: s; immutable constant c24: s; immutable constant c25: s; immutable constant c26: s; immutable constant c27: s; immutable constant c28: s; immutable constant c29: s; immutable constant c30: s; immutable constant c31: s; immutable constant c32: s; immutable constant c33: s; immutable constant c34: s; immutable constant c35: s; immutable constant c36: s; immutable constant c37: s; immutable constant c38: s; immutable constant c39: s; immutable relation r(s, s, s);";
 
+// A flag that a step sets though it may not, and thirteen constants.
+const THIRTEEN: &str =
+    "sort s; immutable constant c0: s; immutable constant c1: s; immutable constant c2: s; immutable constant c3: s; immutable constant c4: s; immutable constant c5: s; immutable constant c6: s; immutable constant c7: s; immutable constant c8: s; immutable constant c9: s; immutable constant c10: s; immutable constant c11: s; immutable constant c12: s; mutable relation x; init !x; transition t modifies x: x'; safety !x;";
+
 // Command lines, texts, and the status and the report that they have.
 static REPORTS: [(&str, &str, u8, &str); 16] = [
     ("synth|--breadth|literals 2", SWAP, 0, SWAP_REPORT),
@@ -130,7 +134,7 @@ const EIGHT_REPORT: &str =
     "classes 696\ninvariant a\ninvariant !b\ninvariant c\ninvariant !d\ninvariant e\ninvariant !f\ninvariant g\ninvariant !h\nclosed under single formulas\nverdict safe\n";
 
 // Command lines and texts that are read and then refused, with the status and this line.
-static REFUSED: [(&str, &str, u8, &str); 10] = [
+static REFUSED: [(&str, &str, u8, &str); 11] = [
     // the template's own faults, then a cycle, then the counts
     (
         "synth|--breadth|literals 7",
@@ -188,6 +192,13 @@ static REFUSED: [(&str, &str, u8, &str); 10] = [
         FORTY,
         4,
         "swiss: TooLarge on safety at start: terms 40, instances 7745641\n",
+    ),
+    // a formula to finish with: the step's three sentences and its end at 19^6 choices, and 19 + 19^2 + 19^3
+    (
+        "synth|--finish|exists 6 s literals 1",
+        THIRTEEN,
+        4,
+        "swiss: TooLarge on join t of exists _1: s, _2: s, _3: s, _4: s, _5: s, _6: s. !x: terms 19, instances 47053123\n",
     ),
 ];
 
