@@ -1,4 +1,4 @@
--- What a search tells of a protocol, the templates that there are, and a budget: a report, or what ended it.
+-- What a search tells of a protocol, the templates that there are, so many workers and a budget: a report, or what ended it.
 use Rattle.std.specs.Prelude.{Contains, ◌≡◌, ℕ, ◌<◌, ◌≤◌, List, [], length, Option, Some, None, slice_get, string_bytes}
 use Rattle.std.specs.List.{AllByRecursion}
 use Rattle.sw_logic.specs.declared.syntax.Signature.{Signature}
@@ -23,9 +23,9 @@ use Rattle.sw_template.specs.Bodies.{Class}
 use Rattle.sw_examine.specs.declared.examining.QueryName.{QueryName}
 use Rattle.sw_examine.specs.declared.examining.QueryName.TheVariants as name
 use Rattle.sw_examine.specs.Examinations.{IsAsked}
-use Rattle.sw_breadth.specs.States.{BeginsWith}
+use Rattle.sw_work.specs.Works.{BeginsWith}
 use Rattle.sw_join.specs.Joining.{IsAsked as IsAskedToJoin}
-use Rattle.sw_finish.specs.Finishing.{IsFirstJoined}
+use Rattle.sw_seek.specs.Seeking.{IsFirstJoined}
 use Rattle.sw_search.specs.declared.telling.Told.{Told}
 use Rattle.sw_search.specs.declared.telling.Told.TheVariants.{Report, Stopped}
 
@@ -36,11 +36,17 @@ abbrev pub IsPlain : Protocol → Option Template → List Formula → Type 0
 IsPlain p None list = list ≡ []
 IsPlain p (Some t) list = (found : List (List ℕ)) × PlainList p t found × (list ≡ formulas_of p t found)
 
--- the list that a search finds
-pub record IsList (p : Protocol) (t : Option Template) (list : List Formula) : Type 0 where
+-- the formulas are those of a list of classes; without a template there are none
+abbrev pub AreOfClasses : Protocol → Option Template → List Formula → Type 0
+AreOfClasses p None list = list ≡ []
+AreOfClasses p (Some t) list = (found : List (List ℕ)) × AllByRecursion (Contains (classes p.signature t)) found × (list ≡ formulas_of p t found)
+
+-- the list that a search with so many workers finds; with one it is that of the plain pass
+pub record IsList (p : Protocol) (t : Option Template) (workers : ℕ) (list : List Formula) : Type 0 where
   pub earned : Earned p t list
   pub closed : Closed p t list
-  pub plain : IsPlain p t list
+  pub of_classes : AreOfClasses p t list
+  pub plain : workers ≡ 1 → IsPlain p t list
 
 -- the formula of a word is that of the first class in order that joins
 abbrev pub IsFirst : Protocol → Option Template → List Formula → Word → Type 0
@@ -51,25 +57,25 @@ IsFirst p u list Word.safe = Unit {0}
 IsFirst p u list Word.exhausted = Unit {0}
 IsFirst p u list Word.unsettled = Unit {0}
 
--- the word on a list, and the first formula of the finish template that serves for it
-pub record HasVerdict (p : Protocol) (u : Option Template) (list : List Formula) (word : Word) : Type 0 where
+-- the word on a list; with one worker it names the first formula of the finish template that serves
+pub record HasVerdict (p : Protocol) (u : Option Template) (workers : ℕ) (list : List Formula) (word : Word) : Type 0 where
   pub verdict : Verdict p u list word
-  pub first : IsFirst p u list word
+  pub first : workers ≡ 1 → IsFirst p u list word
 
 -- the status and the text are those of such a list and of its word; `t` is the template of the list, `u` the one to finish with
-pub record IsReport (p : Protocol) (t u : Option Template) (status : ℕ) (bytes : List ℕ) : Type 0 where
+pub record IsReport (p : Protocol) (t u : Option Template) (workers status : ℕ) (bytes : List ℕ) : Type 0 where
   pub list : List Formula
   pub word : Word
-  pub found : IsList p t list
-  pub says : HasVerdict p u list word
+  pub found : IsList p t workers list
+  pub says : HasVerdict p u workers list word
   pub text : bytes ≡ report_text p t list word
   pub ends : status ≡ word_status word
 
 -- the text of a report has so many bytes, more than are written
-pub record IsTextOver (p : Protocol) (t u : Option Template) (n : ℕ) : Type 0 where
+pub record IsTextOver (p : Protocol) (t u : Option Template) (workers n : ℕ) : Type 0 where
   pub status : ℕ
   pub bytes : List ℕ
-  pub report : IsReport p t u status bytes
+  pub report : IsReport p t u workers status bytes
   pub is : n ≡ length bytes
   pub over : OUTPUT_LIMIT < length bytes
 
@@ -122,10 +128,10 @@ named_class (name.Join n class) = Some class
 named_class name.SafetyStart = None
 named_class (name.SafetyStep n) = None
 
--- the query of this name, of a class of the template, under an earned list of classes with which the plain list begins; those asked before it neither decide nor are too large
-pub record InBreadth (p : Protocol) (t : Template) (name : QueryName) (Known : Query → Type 0) : Type 0 where
+-- the query of this name, of a class of the template, under an earned list of classes, with which the plain list begins where one worker searches; those asked before it neither decide nor are too large
+pub record InBreadth (p : Protocol) (t : Template) (workers : ℕ) (name : QueryName) (Known : Query → Type 0) : Type 0 where
   pub list : List (List ℕ)
-  pub on_the_way : (h : List (List ℕ)) → PlainList p t h → BeginsWith list h
+  pub on_the_way : workers ≡ 1 → (h : List (List ℕ)) → PlainList p t h → BeginsWith list h
   pub listed : AllByRecursion (Contains (classes p.signature t)) list
   pub earned : Earned p (Some t) (formulas_of p t list)
   pub class : Class
@@ -135,9 +141,9 @@ pub record InBreadth (p : Protocol) (t : Template) (name : QueryName) (Known : Q
   pub known : Known query
 
 -- the query of this name, of a class of the finish template, under the list, which leaves safety open
-pub record InFinish (p : Protocol) (t : Option Template) (u : Template) (name : QueryName) (Known : Query → Type 0) : Type 0 where
+pub record InFinish (p : Protocol) (t : Option Template) (workers : ℕ) (u : Template) (name : QueryName) (Known : Query → Type 0) : Type 0 where
   pub list : List Formula
-  pub found : IsList p t list
+  pub found : IsList p t workers list
   pub open_ : Verdict p None list Word.unsettled
   pub class : Class
   pub among : Contains (classes p.signature u) class.cubes
@@ -146,19 +152,19 @@ pub record InFinish (p : Protocol) (t : Option Template) (u : Template) (name : 
   pub known : Known query
 
 -- why a search stops at the query that is told so: one row a phase
-pub data Stops (p : Protocol) (t u : Option Template) (budget : Option ℕ) (asked : Asked) (ended : Ended) : Type 0 where
-  in_breadth : (template : Template) (name : QueryName) → t ≡ Some template → (b : InBreadth p template name (EndsBy budget ended)) → asked ≡ told_query p name (formula_of p.signature template b.class.cubes)
-      → Stops p t u budget asked ended
-  in_safety : (list : List Formula) (query : SafetyQuery) → IsList p t list → asked ≡ told_safety p query → Ends p list query (EndsBy budget ended) → Stops p t u budget asked ended
-  in_finish : (template : Template) (name : QueryName) → u ≡ Some template → (b : InFinish p t template name (EndsBy budget ended)) → asked ≡ told_query p name (formula_of p.signature template b.class.cubes)
-      → Stops p t u budget asked ended
+pub data Stops (p : Protocol) (t u : Option Template) (workers : ℕ) (budget : Option ℕ) (asked : Asked) (ended : Ended) : Type 0 where
+  in_breadth : (template : Template) (name : QueryName) → t ≡ Some template → (b : InBreadth p template workers name (EndsBy budget ended)) → asked ≡ told_query p name (formula_of p.signature template b.class.cubes)
+      → Stops p t u workers budget asked ended
+  in_safety : (list : List Formula) (query : SafetyQuery) → IsList p t workers list → asked ≡ told_safety p query → Ends p list query (EndsBy budget ended) → Stops p t u workers budget asked ended
+  in_finish : (template : Template) (name : QueryName) → u ≡ Some template → (b : InFinish p t workers template name (EndsBy budget ended)) → asked ≡ told_query p name (formula_of p.signature template b.class.cubes)
+      → Stops p t u workers budget asked ended
 
 -- the line of what ended a search without a report
-pub data IsStopped (p : Protocol) (t u : Option Template) (budget : Option ℕ) (line : List ℕ) : Type 0 where
-  asked : (asked : Asked) (ended : Ended) → Stops p t u budget asked ended → line ≡ ended_line p.signature asked ended → IsStopped p t u budget line
-  over : (n : ℕ) → IsTextOver p t u n → line ≡ text_over_line n → IsStopped p t u budget line
+pub data IsStopped (p : Protocol) (t u : Option Template) (workers : ℕ) (budget : Option ℕ) (line : List ℕ) : Type 0 where
+  asked : (asked : Asked) (ended : Ended) → Stops p t u workers budget asked ended → line ≡ ended_line p.signature asked ended → IsStopped p t u workers budget line
+  over : (n : ℕ) → IsTextOver p t u workers n → line ≡ text_over_line n → IsStopped p t u workers budget line
 
 -- what a search tells
-abbrev pub IsTold : Protocol → Option Template → Option Template → Option ℕ → Told → Type 0
-IsTold p t u budget (Report status text) = IsReport p t u status (string_bytes text) × (length (string_bytes text) ≤ OUTPUT_LIMIT)
-IsTold p t u budget (Stopped line) = IsStopped p t u budget (string_bytes line)
+abbrev pub IsTold : Protocol → Option Template → Option Template → ℕ → Option ℕ → Told → Type 0
+IsTold p t u workers budget (Report status text) = IsReport p t u workers status (string_bytes text) × (length (string_bytes text) ≤ OUTPUT_LIMIT)
+IsTold p t u workers budget (Stopped line) = IsStopped p t u workers budget (string_bytes line)
