@@ -1,0 +1,6 @@
+//! Breadth: rounds of workers on a shared log, and the record of what they did.
+#![tactic(auto)]
+
+pub mod breadth;
+
+pub use breadth::breadth;

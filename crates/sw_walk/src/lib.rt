@@ -1,0 +1,6 @@
+//! What a search asks of a space: its classes, part by part.
+#![tactic(auto)]
+
+pub mod walk;
+
+pub use walk::Walk;
