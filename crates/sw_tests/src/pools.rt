@@ -20,14 +20,13 @@ const OFF: &str = "mutable relation x; init !x; transition t modifies x: x'; saf
 
 const FILTERS: usize = 100;
 
-/// Every body stands for the formula that is always true.
-struct Truth;
+/// A space in which no body has a formula.
+struct Nothing;
 
-impl Candidates for Truth {
-    ghost use Rattle.std.specs.Prelude.{⊤};
+impl Candidates for Nothing {
     ghost use Rattle.sw_logic.specs.declared.syntax.Formula.TheVariants as tree;
 
-    ghost has = { λ _ _. ⊤ };
+    ghost has = { λ _ _. ⊥ };
 
     ghost formula_of = { λ _ _. tree.True };
 
@@ -68,7 +67,7 @@ fn found(
 ) -> Result<usize, AllocError>
     requires { IsWellFormed protocol.now }
 {
-    let mut view = View::new(alloc, protocol, &Truth, Mode::Breadth);
+    let mut view = View::new(alloc, protocol, &Nothing, Mode::Breadth);
     let tokens = pool.refresh(alloc, protocol, cursor, &mut view)?;
     Ok(tokens.len())
 }
@@ -81,7 +80,7 @@ fn a_view_gets_each_filter_of_the_pool_once(rt: HostRuntime) -> Result<(), Fail>
     };
     let pool = Pool::new(alloc)?;
     let token = published(&rt, alloc, &pool, false)?;
-    let mut view = View::new(alloc, &protocol, &Truth, Mode::Breadth);
+    let mut view = View::new(alloc, &protocol, &Nothing, Mode::Breadth);
     let mut cursor = Cursor::new(alloc);
     let tokens = pool.refresh(alloc, &protocol, &mut cursor, &mut view)?;
     assert_eq!(rt; tokens.len(), 1);
