@@ -1,12 +1,11 @@
 -- A filter is kept.
-use Rattle.std.proofs.Common.{◌≡◌, ◌<◌, ◌≤◌, ◌+◌, ◌^◌, ◌∙◌, sym, subst, ap, refl, arith, ℕ, zero, suc, Bool, true, false, Option, Some, None, option_map, List, [], ◌∷◌, ◌++◌, map, length, take, get_or, append-nil, append_assoc}
+use Rattle.std.proofs.Common.{◌≡◌, ◌<◌, ◌∙◌, sym, subst, ap, refl, arith, ℕ, zero, suc, Bool, true, Option, Some, None, option_map, List, [], ◌∷◌, ◌++◌, map, length, take, get_or, append-nil, append_assoc}
 use Rattle.std.specs.List.{AllByRecursion, AllZip, Contains, slice_get}
 use Rattle.std.specs.Prelude.{slice_set}
 use Rattle.std.proofs.lemmas.List.{map-append, length-append, length-map, length-set}
 use Rattle.std.proofs.Math.Seq.{take-length}
 use Rattle.std.proofs.lemmas.Option.{slice_get_within, slice_get-map, none-some, same_Some}
 use Rattle.sw_lists.proofs.Each.{each-at, each-push, each-weaker}
-use Rattle.sw_lists.proofs.Members.{contains_get}
 use Rattle.sw_logic.specs.declared.syntax.Formula.{Formula}
 use Rattle.sw_meaning.specs.declared.protocol.Protocol.{Protocol}
 use Rattle.sw_template.specs.Bodies.{Class}
@@ -18,7 +17,7 @@ use Rattle.sw_filter.specs.declared.view.Mark.{Mark}
 use Rattle.sw_filter.specs.declared.view.Mark.TheVariants as mark
 use Rattle.sw_filter.specs.declared.view.Shown.{Shown}
 use Rattle.sw_filter.specs.Filters.{IsAdmitted, IsLive, Refutes}
-use Rattle.sw_filter.specs.Good.{IsCounterexample, Good, refuted}
+use Rattle.sw_filter.specs.Good.{IsCounterexample, refuted}
 use Rattle.sw_filter.specs.Views.{AreAdmitted, AreMarked, IsMarked, FirstRejects, NoneRejects}
 use Rattle.sw_pool.specs.declared.pool.Pool.{Pool}
 use Rattle.sw_pool.specs.declared.pool.Seen.{Seen}
@@ -26,8 +25,8 @@ use Rattle.sw_pool.specs.Pools.{IsShown, filter_of}
 use Rattle.sw_core.specs.declared.record.Kept.{Kept}
 use Rattle.sw_core.specs.Machine.{Search, filters_at, formula_in}
 use Rattle.sw_core.specs.Gathered.{IsKeptBy, IsFresh, AreFresh, filters_of}
-use Rattle.sw_walk.specs.Parts.{IsClass, all_classes, class_of}
-use Rattle.sw_hand.specs.Hands.{Serves, IsHand, AreTokens, Grows, IsGoodBy, Rejects, used_from, used_filters}
+use Rattle.sw_walk.specs.Parts.{IsClass, class_of}
+use Rattle.sw_hand.specs.Hands.{Serves, IsHand, AreTokens, Grows, IsGoodBy, Rejects, used_from}
 use Rattle.sw_hand.proofs.Used.{use_still, use_one, use_each, push_still, push_one, push_each}
 
 -- a live filter of the protocol that refutes a formula is a counterexample to it
@@ -103,8 +102,8 @@ module _ (m : Search) (pool : Pool) (worker : ℕ) (g : List Formula) (c : List 
     within = let a : place < length shown = slice_get_within shown place here first.0.1 in let b : length (filters_of kept) ≡ length (map (λ (s : Shown). s.filter.now) shown) = ap length hand.same in
         omega (arith, hand.marks, length-map kept (λ (k : Kept). k.filter), length-map shown (λ (s : Shown). s.filter.now))
 
-    at : slice_get (filters_of kept) place ≡ Some here.filter.now
-    at = got_filter kept shown place here hand.same first.0.1
+    there : slice_get (filters_of kept) place ≡ Some here.filter.now
+    there = got_filter kept shown place here hand.same first.0.1
 
     rejects : Rejects m g c here.filter.now
     rejects = rejecting m g c f shown place here is admitted marked first.0.1 first.0.2.live first.0.2.refutes
@@ -116,14 +115,14 @@ module _ (m : Search) (pool : Pool) (worker : ℕ) (g : List Formula) (c : List 
       fresh = hand.fresh;
       shows = hand.shows;
       marks = length-set used place true ∙ hand.marks;
-      live = use_each (filters_of kept) used place here.filter.now within at (IsLive m.protocol m.mode g) hand.live rejects.live;
+      live = use_each (filters_of kept) used place here.filter.now within there (IsLive m.protocol m.mode g) hand.live rejects.live;
     }
 
     pub grows_used : Grows kept used kept (slice_set used place true)
-    grows_used = record { more = []; is = sym (append-nil kept); still = use_still (filters_of kept) used place here.filter.now within at }
+    grows_used = record { more = []; is = sym (append-nil kept); still = use_still (filters_of kept) used place here.filter.now within there }
 
     pub good_used : IsGoodBy m g kept (slice_set used place true) c
-    good_used = refuted here.filter.now (use_one (filters_of kept) used place here.filter.now within at)
+    good_used = refuted here.filter.now (use_one (filters_of kept) used place here.filter.now within there)
         (counters m.protocol m.mode g (formula_in m c) here.filter.now rejects.admitted rejects.live rejects.refutes)
 
   -- a filter is kept, where none that is kept rejects the class
@@ -190,16 +189,16 @@ module _ (m : Search) (pool : Pool) (worker : ℕ) (g : List Formula) (c : List 
 
 -- the place of a filter that was found is one of its tokens
 pub token_place : (pool : Pool) (tokens : List Seen) (shown : List Shown) (place : ℕ) (e : Shown) → AreTokens pool tokens shown → slice_get shown place ≡ Some e → place < length tokens
-token_place pool [] [] place e h at = absurd (none-some e at)
-token_place pool [] (y ∷ ys) place e h at = absurd h
-token_place pool (t ∷ ts) [] place e h at = absurd h
-token_place pool (t ∷ ts) (y ∷ ys) zero e h at = omega arith
-token_place pool (t ∷ ts) (y ∷ ys) (suc place) e h at = let r = token_place pool ts ys place e h.1 at in omega arith
+token_place pool [] [] place e h got = absurd (none-some e got)
+token_place pool [] (y ∷ ys) place e h got = absurd h
+token_place pool (t ∷ ts) [] place e h got = absurd h
+token_place pool (t ∷ ts) (y ∷ ys) zero e h got = omega arith
+token_place pool (t ∷ ts) (y ∷ ys) (suc place) e h got = let r = token_place pool ts ys place e h.1 got in omega arith
 
 -- and the token there shows it
 pub token_at : (pool : Pool) (tokens : List Seen) (shown : List Shown) (place : ℕ) (d : Seen) (e : Shown) → AreTokens pool tokens shown → slice_get shown place ≡ Some e → IsShown pool (get_or tokens place d) × (filter_of (get_or tokens place d) ≡ e.filter.now)
-token_at pool [] [] place d e h at = absurd (none-some e at)
-token_at pool [] (y ∷ ys) place d e h at = absurd h
-token_at pool (t ∷ ts) [] place d e h at = absurd h
-token_at pool (t ∷ ts) (y ∷ ys) zero d e h at = (h.0.0, h.0.1 ∙ ap (λ (s : Shown). s.filter.now) (same_Some y e at))
-token_at pool (t ∷ ts) (y ∷ ys) (suc place) d e h at = token_at pool ts ys place d e h.1 at
+token_at pool [] [] place d e h got = absurd (none-some e got)
+token_at pool [] (y ∷ ys) place d e h got = absurd h
+token_at pool (t ∷ ts) [] place d e h got = absurd h
+token_at pool (t ∷ ts) (y ∷ ys) zero d e h got = (h.0.0, h.0.1 ∙ ap (λ (s : Shown). s.filter.now) (same_Some y e got))
+token_at pool (t ∷ ts) (y ∷ ys) (suc place) d e h got = token_at pool ts ys place d e h.1 got

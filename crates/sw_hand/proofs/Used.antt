@@ -1,6 +1,6 @@
 -- The places that are marked as used, and the filters there.
-use Rattle.std.proofs.Common.{◌≡◌, ◌≢◌, ◌<◌, ◌+◌, ◌∙◌, sym, subst, ap, refl, arith, inl, inr, ℕ, zero, suc, ◌⊎◌, Bool, true, false, Option, Some, None, List, [], ◌∷◌, ◌++◌, map, length, take, get_or, append-nil, if◌then◌else◌}
-use Rattle.std.specs.List.{AllByRecursion, Contains, slice_get, cons_option, filter_map}
+use Rattle.std.proofs.Common.{◌≡◌, ◌<◌, ◌+◌, ◌∙◌, sym, subst, ap, refl, arith, inl, inr, ℕ, zero, suc, ◌⊎◌, Bool, true, false, Option, Some, None, List, [], ◌∷◌, ◌++◌, map, length, take, get_or, append-nil, if◌then◌else◌}
+use Rattle.std.specs.List.{AllByRecursion, Contains, slice_get, cons_option}
 use Rattle.std.specs.Prelude.{slice_set}
 use Rattle.std.proofs.lemmas.Bool.{false≢true}
 use Rattle.std.proofs.lemmas.List.{map-append, take_more, take_more_set, length-take-le}

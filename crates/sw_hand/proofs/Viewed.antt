@@ -1,7 +1,7 @@
 -- What a view shows after filters were found, and under a longer list.
-use Rattle.std.proofs.Common.{◌≡◌, ◌<◌, ◌≤◌, ◌+◌, ◌^◌, ◌∙◌, sym, subst, ap, refl, arith, ℕ, Bool, true, false, Option, Some, None, List, [], ◌∷◌, ◌++◌, map, length, take, drop, append-nil}
-use Rattle.std.specs.List.{AllByRecursion, AllZip, slice_get}
-use Rattle.std.proofs.lemmas.List.{length-append, length-map, length-take-le, take-append-drop}
+use Rattle.std.proofs.Common.{◌≡◌, ◌<◌, ◌≤◌, ◌^◌, ◌∙◌, sym, subst, ap, refl, arith, ℕ, Bool, Result, Ok, Err, IfOk, OnOk, List, [], ◌∷◌, ◌++◌, map, length, take, drop, append-nil}
+use Rattle.std.specs.List.{AllByRecursion, AllZip}
+use Rattle.std.proofs.lemmas.List.{length-map, length-take-le, take-append-drop}
 use Rattle.sw_lists.proofs.Each.{each-append, each-map, each-unmap}
 use Rattle.sw_logic.specs.declared.syntax.Formula.{Formula}
 use Rattle.sw_meaning.specs.declared.protocol.Protocol.{Protocol}
@@ -14,13 +14,12 @@ use Rattle.sw_filter.specs.Filters.{IsAdmitted, IsLive}
 use Rattle.sw_filter.specs.Views.{AreAdmitted, AreMarked, AreTold, IsMarked, Tells, known_of}
 use Rattle.sw_pool.specs.declared.pool.Pool.{Pool}
 use Rattle.sw_pool.specs.declared.pool.Seen.{Seen}
-use Rattle.sw_pool.specs.Pools.{IsShown, filter_of}
 use Rattle.sw_pool.specs.Refreshes.{Shows, IsNewcomer, AddsEach}
 use Rattle.sw_core.specs.declared.record.Kept.{Kept}
 use Rattle.sw_core.specs.Machine.{Search, filters_at}
-use Rattle.sw_core.specs.Gathered.{Share, IsShare, IsKeptBy, AreFresh, filters_of}
+use Rattle.sw_core.specs.Gathered.{Share, IsShare, filters_of}
 use Rattle.sw_core.proofs.Shares.{share_stays}
-use Rattle.sw_hand.specs.Hands.{IsView, IsHand, AreTokens, AreUnused, used_from}
+use Rattle.sw_hand.specs.Hands.{IsView, IsHand, AreTokens, AreUnused}
 
 tells_of : (p : Protocol) (m : Mode) (g : List Formula) (x : Filter) (k : Mark) → IsMarked p m g x k → Tells p m g x k
 tells_of p m g x mark.New h = absurd h
@@ -57,20 +56,27 @@ tokens_append pool [] (y ∷ ys) us fs h k = absurd h
 tokens_append pool (x ∷ xs) [] us fs h k = absurd h
 tokens_append pool (x ∷ xs) (y ∷ ys) us fs h k = (h.0, tokens_append pool xs ys us fs h.1 k)
 
+firsts_of : (xs : List Shown) → map (λ (k : Filter × Bool). k.0) (known_of xs) ≡ map (λ (e : Shown). e.filter.now) xs
+firsts_of [] = refl
+firsts_of (x ∷ xs) = ap (λ fs. x.filter.now ∷ fs) (firsts_of xs)
+
 filters_known : (xs ys : List Shown) → known_of xs ≡ known_of ys → map (λ (e : Shown). e.filter.now) xs ≡ map (λ (e : Shown). e.filter.now) ys
-filters_known [] [] e = refl
-filters_known [] (y ∷ ys) e = absurd (cc)
-filters_known (x ∷ xs) [] e = absurd (cc)
-filters_known (x ∷ xs) (y ∷ ys) e = let rest : known_of xs ≡ known_of ys = (cc) in let one : x.filter.now ≡ y.filter.now = (cc) in let more = filters_known xs ys rest in cc
+filters_known xs ys e = sym (firsts_of xs) ∙ (ap (map (λ (k : Filter × Bool). k.0)) e ∙ firsts_of ys)
+
+tokens_same : (pool : Pool) (ts : List Seen) (xs ys : List Shown) → map (λ (e : Shown). e.filter.now) xs ≡ map (λ (e : Shown). e.filter.now) ys → AreTokens pool ts ys → AreTokens pool ts xs
+tokens_same pool [] [] [] e h = tt
+tokens_same pool [] [] (y ∷ ys) e h = absurd h
+tokens_same pool [] (x ∷ xs) [] e h = absurd (cc)
+tokens_same pool [] (x ∷ xs) (y ∷ ys) e h = absurd h
+tokens_same pool (t ∷ ts) [] [] e h = absurd h
+tokens_same pool (t ∷ ts) (x ∷ xs) [] e h = absurd h
+tokens_same pool (t ∷ ts) [] (y ∷ ys) e h = absurd (cc)
+tokens_same pool (t ∷ ts) (x ∷ xs) (y ∷ ys) e h =
+    let rest : map (λ (e : Shown). e.filter.now) xs ≡ map (λ (e : Shown). e.filter.now) ys = (cc) in let one : y.filter.now ≡ x.filter.now = (cc) in
+    ((h.0.0, h.0.1 ∙ one), tokens_same pool ts xs ys rest h.1)
 
 pub tokens_known : (pool : Pool) (ts : List Seen) (xs ys : List Shown) → known_of xs ≡ known_of ys → AreTokens pool ts ys → AreTokens pool ts xs
-tokens_known pool [] [] [] e h = tt
-tokens_known pool [] [] (y ∷ ys) e h = absurd h
-tokens_known pool [] (x ∷ xs) ys e h = elim ys as (λ zs. known_of (x ∷ xs) ≡ known_of zs → AreTokens pool [] zs → AreTokens pool [] (x ∷ xs)) [ [] ↦ λ f k. absurd (cc) | z ∷ zs ↦ λ f k. absurd k ] e h
-tokens_known pool (t ∷ ts) xs [] e h = absurd h
-tokens_known pool (t ∷ ts) [] (y ∷ ys) e h = absurd (cc)
-tokens_known pool (t ∷ ts) (x ∷ xs) (y ∷ ys) e h =
-    let rest : known_of xs ≡ known_of ys = (cc) in let one : y.filter.now ≡ x.filter.now = (cc) in ((h.0.0, h.0.1 ∙ one), tokens_known pool ts xs ys rest h.1)
+tokens_known pool ts xs ys e h = tokens_same pool ts xs ys (filters_known xs ys e) h
 
 admitted_known : (p : Protocol) (xs ys : List Shown) → known_of xs ≡ known_of ys → AreAdmitted p ys → AreAdmitted p xs
 admitted_known p xs ys e a =
@@ -160,3 +166,12 @@ hand_later m pool worker list from shown shown' kept tokens used used' h known l
       marks = long ∙ h.marks;
       live = subst (λ places. AllByRecursion (IsLive m.protocol m.mode list) (filters_at (filters_of kept) places)) (sym none) tt;
     }
+
+-- what holds anyhow holds where the answer is Ok
+pub if_ok : {A E : Type 0} (P : Type 0) (r : Result A E) → P → IfOk r (λ _. P)
+if_ok P (Ok x) h = h
+if_ok P (Err e) h = tt
+
+pub then_ok : {A E : Type 0} (P Q : Type 0) (r : Result A E) → OnOk r P → (P → Q) → IfOk r (λ _. Q)
+then_ok P Q (Ok x) h f = f h
+then_ok P Q (Err e) h f = tt
