@@ -1,6 +1,4 @@
 //! Filters that workers publish in a pool, and what others find there.
-ghost use Rattle.std.specs.Prelude.{IfOk};
-ghost use Rattle.std.specs.Thread.{IsSync};
 ghost use Rattle.sw_meaning.specs.WellFormed.{IsWellFormed};
 
 use sqlite_items::Items;
@@ -141,13 +139,13 @@ fn two_work<H: Threads + Wait + Sync>(
 ) -> Result<Vec<Result<(usize, Cursor), AllocError>>, AllocError>
     requires { IsWellFormed protocol.now }
 {
-    let seats = vec![in alloc; 0u32, 1]?;
+    let seats = vec![in alloc; protocol, protocol]?;
     fork(
         rt,
         alloc,
         seats,
-        &|_place: u32, _seat: u32| -> Result<(usize, Cursor), AllocError>
-            requires { IsSync H.row × IsWellFormed protocol.now }
+        &|_place: u32, protocol: &Protocol| -> Result<(usize, Cursor), AllocError>
+            requires { IsWellFormed protocol.now }
         { works(rt, alloc, pool, protocol) },
     )
 }
