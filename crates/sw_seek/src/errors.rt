@@ -1,10 +1,12 @@
 //! Why the search for a class that joins ends without an answer.
+ghost use Rattle.std.specs.Prelude.{◌≡◌};
+
 use std::alloc::AllocError;
 use sw_examine::QueryName;
 use sw_truth::Refutation;
 use sw_universe::Size;
 
-/// Why there is no answer: want of memory, or a query.
+/// Want of memory, or a query of a class under the entries.
 #[derive(Drop)]
 pub enum FinishError {
     Memory,
@@ -21,4 +23,3 @@ impl From<AllocError> for FinishError {
         FinishError::Memory
     }
 }
-

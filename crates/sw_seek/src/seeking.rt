@@ -53,5 +53,6 @@ pub fn seek<'a, H: Wait, G: Gate, B: Candidates + Walk>(
     ensures cause { IfErr result (IsCause (search_of task.now.protocol.now (B.template task.now.space.now) Finish task.now.workers) entries.now budget) }
     ensures stopped { IfErr result (λ _. 1 ≤ claim_seat.new.view.seen) }
 {
+    claims.stop(claim_seat, task.worker as u64 + 1);
     Err(FinishError::Memory)
 }
