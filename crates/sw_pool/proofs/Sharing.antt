@@ -40,9 +40,48 @@ term_sync = search (variants_sync, sendable, term_hole, as_row_sync, items.the_s
 twice : (R : RattleType) → IsSync R → IsSync (as_row (row_field (as_row (row_field R))))
 twice R s = as_row_sync (row_field (as_row (row_field R))) (as_row_sync (row_field R) s)
 
+args_sync : IsSync (as_row (row_field (as_row (row_field (items_row.the_row term.the_row)))))
+args_sync = twice (items_row.the_row term.the_row) (items.the_sync term.the_row term_sync)
+
+binders_sync : IsSync (as_row (row_field (as_row (row_field (items_row.the_row binder_row.the_row)))))
+binders_sync = twice (items_row.the_row binder_row.the_row) (items.the_sync binder_row.the_row binder.the_sync)
+
 formula_layer : (h : formulas.the_members → RattleType) → IsSync (h formula_block.member-Formula) → IsSync (layer_row formulas.ring formula_block.member-Formula h)
-formula_layer h one = let x = h formula_block.member-Formula in record { shared = (variants_sync (formulas.type-Formula x x x x x x x x x)
-    (tt, (tt, (((search (sendable, one, term_sync, as_row_sync, items.the_sync, boxed.the_sync) depth 16), ((search (sendable, one, term_sync, as_row_sync, items.the_sync, boxed.the_sync) depth 16), (twice (items_row.the_row term.the_row) (items.the_sync term.the_row term_sync), tt))), ((search (sendable, one, term_sync, as_row_sync, items.the_sync, boxed.the_sync) depth 16), ((search (sendable, one, term_sync, as_row_sync, items.the_sync, boxed.the_sync) depth 16), ((search (sendable, one, term_sync, as_row_sync, items.the_sync, boxed.the_sync) depth 16), ((search (sendable, one, term_sync, as_row_sync, items.the_sync, boxed.the_sync) depth 16), ((search (sendable, one, term_sync, as_row_sync, items.the_sync, boxed.the_sync) depth 16), ((search (sendable, one, term_sync, as_row_sync, items.the_sync, boxed.the_sync) depth 16), ((twice (items_row.the_row binder_row.the_row) (items.the_sync binder_row.the_row binder.the_sync), ((search (sendable, one, term_sync, as_row_sync, items.the_sync, boxed.the_sync) depth 16), tt)), ((twice (items_row.the_row binder_row.the_row) (items.the_sync binder_row.the_row binder.the_sync), ((search (sendable, one, term_sync, as_row_sync, items.the_sync, boxed.the_sync) depth 16), tt)), tt)))))))))))).shared }
+formula_layer h one =
+    let x = h formula_block.member-Formula in
+    record {
+      shared = (variants_sync (formulas.type-Formula x x x x x x x x x) (
+        tt,
+        (
+          tt,
+          (
+            (search (sendable, as_row_sync) depth 16, (search (sendable, as_row_sync) depth 16, (args_sync, tt))),
+            (
+              search (sendable, term_sync) depth 16,
+              (
+                search (sendable, one, as_row_sync, boxed.the_sync) depth 16,
+                (
+                  search (sendable, one, as_row_sync, items.the_sync) depth 16,
+                  (
+                    search (sendable, one, as_row_sync, items.the_sync) depth 16,
+                    (
+                      search (sendable, one, as_row_sync, boxed.the_sync) depth 16,
+                      (
+                        search (sendable, one, as_row_sync, boxed.the_sync) depth 16,
+                        (
+                          (binders_sync, (search (sendable, one, as_row_sync, boxed.the_sync) depth 16, tt)),
+                          ((binders_sync, (search (sendable, one, as_row_sync, boxed.the_sync) depth 16, tt)), tt),
+                        ),
+                      ),
+                    ),
+                  ),
+                ),
+              ),
+            ),
+          ),
+        ),
+      )).shared;
+    }
 
 formula_step : (i : formulas.the_members) → Syncs formulas.ring i
 formula_step i = elim i as (λ i. Syncs formulas.ring i) [ formula_block.member-Formula ↦ record { sync = λ h all. formula_layer h (all formula_block.member-Formula) } ]
@@ -57,4 +96,4 @@ pub transition_sync : IsSync transition.the_row
 transition_sync = declared_sync transition.the_type (search (sendable, formula_sync, as_row_sync, items.the_sync, binder.the_field_sync, name.the_sync) depth 16)
 
 pub protocol_sync : IsSync protocol.the_row
-protocol_sync = declared_sync protocol.the_type (search (sendable, formula_sync, transition_sync, as_row_sync, items.the_sync, signature.the_field_sync, decl.the_field_sync, name.the_sync) depth 16)
+protocol_sync = declared_sync protocol.the_type (search (sendable, formula_sync, transition_sync, as_row_sync, items.the_sync, signature.the_field_sync, decl.the_field_sync) depth 16)
