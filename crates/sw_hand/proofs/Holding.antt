@@ -30,7 +30,8 @@ use Rattle.sw_hand.specs.Hands.{Serves, IsHand, AreTokens, Grows, IsGoodBy, Reje
 use Rattle.sw_hand.proofs.Used.{use_still, use_one, use_each, push_still, push_one, push_each}
 
 -- a live filter of the protocol that refutes a formula is a counterexample to it
-counters : (p : Protocol) (mode : Mode) (g : List Formula) (f : Formula) (x : Filter) → IsAdmitted p x → IsLive p mode g x → Refutes p x f → IsCounterexample p mode g f x
+counters : (p : Protocol) (mode : Mode) (g : List Formula) (f : Formula) (x : Filter) → IsAdmitted p x → IsLive p mode g x → Refutes p x f →
+    IsCounterexample p mode g f x
 counters p mode g f (filter.Start s) a l r = (a, r)
 counters p Breadth g f (filter.Move pair n args u) a l r = record { step = a; before = l; formula = r.0; after = r.1 }
 counters p Finish g f (filter.Move pair n args u) a l r = record { step = a; before = l; formula = r.0; after = λ k. r.1 k.0 }
@@ -54,7 +55,8 @@ live_of p mode g x mark.Live h l = refl
 live_of p mode g x mark.Dead h l = absurd (h l)
 
 -- what a shown filter that rejects is
-pub rejecting : (m : Search) (g : List Formula) (c : List ℕ) (f : Formula) (shown : List Shown) (place : ℕ) (e : Shown) → f ≡ formula_in m c → AreAdmitted m.protocol shown → AreMarked m.protocol m.mode g shown →
+pub rejecting : (m : Search) (g : List Formula) (c : List ℕ) (f : Formula) (shown : List Shown) (place : ℕ) (e : Shown) → f ≡ formula_in m c →
+    AreAdmitted m.protocol shown → AreMarked m.protocol m.mode g shown →
     slice_get shown place ≡ Some e → e.mark ≡ mark.Live → Refutes m.protocol e.filter.now f → Rejects m g c e.filter.now
 rejecting m g c f shown place e is admitted marked at live refutes = record {
   admitted = each-at (λ (s : Shown). IsAdmitted m.protocol s.filter.now) shown place e at admitted;
@@ -68,16 +70,19 @@ zip_push R [] (b ∷ bs) x y z r = absurd z
 zip_push R (a ∷ xs) [] x y z r = absurd z
 zip_push R (a ∷ xs) (b ∷ bs) x y z r = (z.0, zip_push R xs bs x y z.1 r)
 
-fresh_push : (m : Search) (g : List Formula) (before ks : List Kept) (k : Kept) → AreFresh m g before ks → IsFresh m g (before ++ ks) k → AreFresh m g before (ks ++ k ∷ [])
+fresh_push : (m : Search) (g : List Formula) (before ks : List Kept) (k : Kept) → AreFresh m g before ks → IsFresh m g (before ++ ks) k →
+    AreFresh m g before (ks ++ k ∷ [])
 fresh_push m g before [] k h f = (subst (λ x. IsFresh m g x k) (append-nil before) f, tt)
 fresh_push m g before (x ∷ ks) k h f = (h.0, fresh_push m g (before ++ x ∷ []) ks k h.1 (subst (λ y. IsFresh m g y k) (sym (append_assoc before (x ∷ []) ks)) f))
 
-got_filter : (kept : List Kept) (shown : List Shown) (place : ℕ) (e : Shown) → filters_of kept ≡ map (λ (s : Shown). s.filter.now) shown → slice_get shown place ≡ Some e → slice_get (filters_of kept) place ≡ Some e.filter.now
+got_filter : (kept : List Kept) (shown : List Shown) (place : ℕ) (e : Shown) → filters_of kept ≡ map (λ (s : Shown). s.filter.now) shown →
+    slice_get shown place ≡ Some e → slice_get (filters_of kept) place ≡ Some e.filter.now
 got_filter kept shown place e same at =
     ap (λ fs. slice_get fs place) same ∙ (slice_get-map (λ (s : Shown). s.filter.now) shown place ∙ ap (λ (o : Option Shown). option_map (λ (s : Shown). s.filter.now) o) at)
 
 -- no kept filter that is live rejects the class
-none_kept : (m : Search) (g : List Formula) (c : List ℕ) (f : Formula) (kept : List Kept) (shown : List Shown) → f ≡ formula_in m c → filters_of kept ≡ map (λ (s : Shown). s.filter.now) shown → AreMarked m.protocol m.mode g shown →
+none_kept : (m : Search) (g : List Formula) (c : List ℕ) (f : Formula) (kept : List Kept) (shown : List Shown) → f ≡ formula_in m c →
+    filters_of kept ≡ map (λ (s : Shown). s.filter.now) shown → AreMarked m.protocol m.mode g shown →
     NoneRejects m.protocol f shown (length shown) → AllByRecursion (λ (k : Kept). IsLive m.protocol m.mode g k.filter → Refutes m.protocol k.filter (formula_in m c) → ⊥) kept
 none_kept m g c f [] shown is same marked none = tt
 none_kept m g c f (k ∷ kept) [] is same marked none = absurd (let e : length (filters_of (k ∷ kept)) ≡ 0 = ap length same in omega arith)
@@ -188,7 +193,8 @@ module _ (m : Search) (pool : Pool) (worker : ℕ) (g : List Formula) (c : List 
       good_pushed = subst (λ x. IsGoodBy m g x used' c) (sym b) (subst (λ x. IsGoodBy m g (kept ++ k ∷ []) x c) (sym e) good_kept)
 
 -- the place of a filter that was found is one of its tokens
-pub token_place : (pool : Pool) (tokens : List Seen) (shown : List Shown) (place : ℕ) (e : Shown) → AreTokens pool tokens shown → slice_get shown place ≡ Some e → place < length tokens
+pub token_place : (pool : Pool) (tokens : List Seen) (shown : List Shown) (place : ℕ) (e : Shown) → AreTokens pool tokens shown →
+    slice_get shown place ≡ Some e → place < length tokens
 token_place pool [] [] place e h got = absurd (none-some e got)
 token_place pool [] (y ∷ ys) place e h got = absurd h
 token_place pool (t ∷ ts) [] place e h got = absurd h
@@ -196,7 +202,8 @@ token_place pool (t ∷ ts) (y ∷ ys) zero e h got = omega arith
 token_place pool (t ∷ ts) (y ∷ ys) (suc place) e h got = let r = token_place pool ts ys place e h.1 got in omega arith
 
 -- and the token there shows it
-pub token_at : (pool : Pool) (tokens : List Seen) (shown : List Shown) (place : ℕ) (d : Seen) (e : Shown) → AreTokens pool tokens shown → slice_get shown place ≡ Some e → IsShown pool (get_or tokens place d) × (filter_of (get_or tokens place d) ≡ e.filter.now)
+pub token_at : (pool : Pool) (tokens : List Seen) (shown : List Shown) (place : ℕ) (d : Seen) (e : Shown) → AreTokens pool tokens shown →
+    slice_get shown place ≡ Some e → IsShown pool (get_or tokens place d) × (filter_of (get_or tokens place d) ≡ e.filter.now)
 token_at pool [] [] place d e h got = absurd (none-some e got)
 token_at pool [] (y ∷ ys) place d e h got = absurd h
 token_at pool (t ∷ ts) [] place d e h got = absurd h

@@ -80,11 +80,13 @@ used_at fs k (true ∷ used) x (suc place) m f =
     option_rest (slice_get fs k) (filters_at fs (used_from (k + 1) used)) x (used_at fs (k + 1) used x place m ((let e : (k + 1) + place ≡ k + suc place = omega arith in ap (slice_get fs) e) ∙ f))
 used_at fs k (false ∷ used) x (suc place) m f = used_at fs (k + 1) used x place m ((let e : (k + 1) + place ≡ k + suc place = omega arith in ap (slice_get fs) e) ∙ f)
 
-pub used_out : (fs : List Filter) (used : List Bool) (x : Filter) (place : ℕ) → slice_get used place ≡ Some true → slice_get fs place ≡ Some x → Contains (filters_at fs (used_from 0 used)) x
+pub used_out : (fs : List Filter) (used : List Bool) (x : Filter) (place : ℕ) → slice_get used place ≡ Some true → slice_get fs place ≡ Some x →
+    Contains (filters_at fs (used_from 0 used)) x
 used_out fs used x place m f = used_at fs 0 used x place m ((let e : 0 + place ≡ place = omega arith in ap (slice_get fs) e) ∙ f)
 
 -- what holds of each used filter holds of all
-pub each_used : (P : Filter → Type 0) (fs : List Filter) (used : List Bool) → ((x : Filter) (place : ℕ) → slice_get used place ≡ Some true → slice_get fs place ≡ Some x → P x) → AllByRecursion P (filters_at fs (used_from 0 used))
+pub each_used : (P : Filter → Type 0) (fs : List Filter) (used : List Bool) →
+    ((x : Filter) (place : ℕ) → slice_get used place ≡ Some true → slice_get fs place ≡ Some x → P x) → AllByRecursion P (filters_at fs (used_from 0 used))
 each_used P fs used each =
     let xs = filters_at fs (used_from 0 used) in
     each-weaker (Contains xs) P (λ x h. (let u = used_in fs 0 used x h in each x u.place u.marked ((let e : u.place ≡ 0 + u.place = omega arith in ap (slice_get fs) e) ∙ u.filter))) xs (each-contained xs)
@@ -116,7 +118,8 @@ module _ (fs : List Filter) (used : List Bool) (i : ℕ) (x : Filter) (within : 
   pub use_one : Contains (filters_at fs (used_from 0 (slice_set used i true))) x
   use_one = used_out fs (slice_set used i true) x i (marked_at used i within) at
 
-  pub use_each : (P : Filter → Type 0) → AllByRecursion P (filters_at fs (used_from 0 used)) → P x → AllByRecursion P (filters_at fs (used_from 0 (slice_set used i true)))
+  pub use_each : (P : Filter → Type 0) → AllByRecursion P (filters_at fs (used_from 0 used)) → P x →
+      AllByRecursion P (filters_at fs (used_from 0 (slice_set used i true)))
   use_each P old here = each_used P fs (slice_set used i true) (λ y place m f. elim (marked_cases used i place m) [
     | inl same ↦ (let e : y ≡ x = same_Some y x (sym f ∙ (ap (slice_get fs) same ∙ at)) in subst P (sym e) here)
     | inr was ↦ of_contained P (filters_at fs (used_from 0 used)) y old (used_out fs used y place was f)
@@ -132,7 +135,8 @@ module _ (fs : List Filter) (used : List Bool) (x : Filter) (long : length used 
   pub push_one : Contains (filters_at (fs ++ x ∷ []) (used_from 0 (used ++ true ∷ []))) x
   push_one = used_out (fs ++ x ∷ []) (used ++ true ∷ []) x (length used) (get_append_at used true []) (ap (slice_get (fs ++ x ∷ [])) long ∙ get_append_at fs x [])
 
-  pub push_each : (P : Filter → Type 0) → AllByRecursion P (filters_at fs (used_from 0 used)) → P x → AllByRecursion P (filters_at (fs ++ x ∷ []) (used_from 0 (used ++ true ∷ [])))
+  pub push_each : (P : Filter → Type 0) → AllByRecursion P (filters_at fs (used_from 0 used)) → P x →
+      AllByRecursion P (filters_at (fs ++ x ∷ []) (used_from 0 (used ++ true ∷ [])))
   push_each P old here = each_used P (fs ++ x ∷ []) (used ++ true ∷ []) (λ y place m f. elim (get_push_cases fs x place y f) [
     | inr last ↦ subst P (sym last.1) here
     | inl was ↦ elim (get_push_cases used true place true m) [

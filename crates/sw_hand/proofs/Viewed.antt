@@ -50,7 +50,8 @@ tokens_of pool p [] (y ∷ ys) z = absurd z
 tokens_of pool p (x ∷ xs) [] z = absurd z
 tokens_of pool p (x ∷ xs) (y ∷ ys) z = ((z.0.shown, z.0.filter), tokens_of pool p xs ys z.1)
 
-tokens_append : (pool : Pool) (ts : List Seen) (es : List Shown) (us : List Seen) (fs : List Shown) → AreTokens pool ts es → AreTokens pool us fs → AreTokens pool (ts ++ us) (es ++ fs)
+tokens_append : (pool : Pool) (ts : List Seen) (es : List Shown) (us : List Seen) (fs : List Shown) → AreTokens pool ts es → AreTokens pool us fs →
+    AreTokens pool (ts ++ us) (es ++ fs)
 tokens_append pool [] [] us fs h k = k
 tokens_append pool [] (y ∷ ys) us fs h k = absurd h
 tokens_append pool (x ∷ xs) [] us fs h k = absurd h
@@ -63,7 +64,8 @@ firsts_of (x ∷ xs) = ap (λ fs. x.filter.now ∷ fs) (firsts_of xs)
 filters_known : (xs ys : List Shown) → known_of xs ≡ known_of ys → map (λ (e : Shown). e.filter.now) xs ≡ map (λ (e : Shown). e.filter.now) ys
 filters_known xs ys e = sym (firsts_of xs) ∙ (ap (map (λ (k : Filter × Bool). k.0)) e ∙ firsts_of ys)
 
-tokens_same : (pool : Pool) (ts : List Seen) (xs ys : List Shown) → map (λ (e : Shown). e.filter.now) xs ≡ map (λ (e : Shown). e.filter.now) ys → AreTokens pool ts ys → AreTokens pool ts xs
+tokens_same : (pool : Pool) (ts : List Seen) (xs ys : List Shown) → map (λ (e : Shown). e.filter.now) xs ≡ map (λ (e : Shown). e.filter.now) ys →
+    AreTokens pool ts ys → AreTokens pool ts xs
 tokens_same pool [] [] [] e h = tt
 tokens_same pool [] [] (y ∷ ys) e h = absurd h
 tokens_same pool [] (x ∷ xs) [] e h = absurd (cc)
@@ -101,7 +103,8 @@ module _ {S : Type 0} (m : Search) (s : S) (g : List Formula) (vp : Protocol) (v
   is_told v = record { protocol = v.protocol; space = v.space; mode = v.mode; advanced = v.advanced; admitted = v.admitted; told = told_of m.protocol m.mode g shown v.marked; room = v.room }
 
   -- filters were found
-  pub told_more : (pool : Pool) (vp' : Protocol) (vs' : S) (vm' : Mode) (upto' : ℕ) (shown' : List Shown) (tokens : List Seen) → IsTold m s g vp vs vm upto shown →
+  pub told_more : (pool : Pool) (vp' : Protocol) (vs' : S) (vm' : Mode) (upto' : ℕ) (shown' : List Shown) (tokens : List Seen) →
+      IsTold m s g vp vs vm upto shown →
       (vp' ≡ vp) × (vs' ≡ vs) × (vm' ≡ vm) × (upto' ≡ upto) → AddsEach pool m.protocol shown shown' tokens → (length shown < 2 ^ 32 → length shown' < 2 ^ 32) → IsTold m s g vp' vs' vm' upto' shown'
   told_more pool vp' vs' vm' upto' shown' tokens v same adds room =
       let new = newcomers pool m.protocol tokens adds.added adds.each in
@@ -116,7 +119,8 @@ module _ {S : Type 0} (m : Search) (s : S) (g : List Formula) (vp : Protocol) (v
       }
 
   -- the list is longer
-  pub begins : (list : List Formula) (from : ℕ) → IsTold m s g vp vs vm upto shown → g ≡ take from list → from ≤ length list → AreTold vp vm (take upto list) shown
+  pub begins : (list : List Formula) (from : ℕ) → IsTold m s g vp vs vm upto shown → g ≡ take from list → from ≤ length list →
+      AreTold vp vm (take upto list) shown
   begins list from v is few =
       let at : upto ≡ from = v.advanced ∙ (ap length is ∙ length-take-le from list few) in
       subst (λ n. AreTold vp vm (take n list) shown) (sym at) (subst (λ h. AreTold vp vm h shown) is (subst (λ q. AreTold q vm g shown) (sym v.protocol) (subst (λ k. AreTold m.protocol k g shown) (sym v.mode) v.told)))
@@ -124,7 +128,8 @@ module _ {S : Type 0} (m : Search) (s : S) (g : List Formula) (vp : Protocol) (v
   pub longer : (list : List Formula) (from : ℕ) → IsTold m s g vp vs vm upto shown → g ≡ take from list → from ≤ length list → upto ≤ length list
   longer list from v is few = let at : upto ≡ from = v.advanced ∙ (ap length is ∙ length-take-le from list few) in omega arith
 
-  pub viewed : (list : List Formula) (vp' : Protocol) (vs' : S) (vm' : Mode) (upto' : ℕ) (shown' : List Shown) → IsTold m s g vp vs vm upto shown → (vp' ≡ vp) × (vs' ≡ vs) × (vm' ≡ vm) → upto' ≡ length list →
+  pub viewed : (list : List Formula) (vp' : Protocol) (vs' : S) (vm' : Mode) (upto' : ℕ) (shown' : List Shown) → IsTold m s g vp vs vm upto shown →
+      (vp' ≡ vp) × (vs' ≡ vs) × (vm' ≡ vm) → upto' ≡ length list →
       known_of shown' ≡ known_of shown → AreMarked vp vm list shown' → IsView m s list vp' vs' vm' upto' shown'
   viewed list vp' vs' vm' upto' shown' v same at known marked = record {
     protocol = same.0 ∙ v.protocol;
@@ -137,7 +142,8 @@ module _ {S : Type 0} (m : Search) (s : S) (g : List Formula) (vp : Protocol) (v
   }
 
 -- the tokens with those that were found
-pub tokens_more : (pool : Pool) (p : Protocol) (found tokens : List Seen) (shown more later : List Shown) → AreTokens pool found shown → AddsEach pool p shown more tokens → known_of later ≡ known_of more → AreTokens pool (found ++ tokens) later
+pub tokens_more : (pool : Pool) (p : Protocol) (found tokens : List Seen) (shown more later : List Shown) → AreTokens pool found shown →
+    AddsEach pool p shown more tokens → known_of later ≡ known_of more → AreTokens pool (found ++ tokens) later
 tokens_more pool p found tokens shown more later h adds known =
     tokens_known pool (found ++ tokens) later more known (subst (AreTokens pool (found ++ tokens)) (sym adds.behind) (tokens_append pool found shown tokens adds.added h (tokens_of pool p tokens adds.added adds.each)))
 

@@ -46,7 +46,8 @@ args_sync = twice (items_row.the_row term.the_row) (items.the_sync term.the_row 
 binders_sync : IsSync (as_row (row_field (as_row (row_field (items_row.the_row binder_row.the_row)))))
 binders_sync = twice (items_row.the_row binder_row.the_row) (items.the_sync binder_row.the_row binder.the_sync)
 
-formula_layer : (h : formulas.the_members → RattleType) → IsSync (h formula_block.member-Formula) → IsSync (layer_row formulas.ring formula_block.member-Formula h)
+formula_layer : (h : formulas.the_members → RattleType) → IsSync (h formula_block.member-Formula) →
+    IsSync (layer_row formulas.ring formula_block.member-Formula h)
 formula_layer h one =
     let x = h formula_block.member-Formula in
     record {
