@@ -1,0 +1,5 @@
+pub mod Alone
+pub mod Asked
+pub mod Begins
+pub mod Rows
+pub mod Seen
