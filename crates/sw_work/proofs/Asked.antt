@@ -1,5 +1,5 @@
 -- What a task's classes can be asked, and what an examination of one says.
-use Rattle.std.specs.Prelude.{◌≡◌, ℕ, ◌<◌, ◌≤◌, Bool, true, false, List, [], ◌∷◌, ◌++◌, length, take, Option, Contains, Result, Ok, Err, IfOk}
+use Rattle.std.specs.Prelude.{◌≡◌, ℕ, ◌<◌, ◌≤◌, Bool, true, false, List, [], ◌∷◌, ◌++◌, length, take, Option, option_map, Contains, Result, Ok, Err, IfOk}
 use Rattle.std.specs.List.{AllByRecursion}
 use Rattle.std.proofs.Common.{rules, refl, arith, sym, ap, ◌∙◌, subst, append_assoc}
 use Rattle.std.proofs.lemmas.List.{take_at, append-nil}
@@ -82,6 +82,9 @@ true_sorted sig = search (rules, formulas.the_lemmas)
 
 true_adds : (extra : List Edge) → AddsAmong extra true True
 true_adds extra = let none : formula_edges True true ≡ [] = search (rules, formulas.the_lemmas) in subst (AllByRecursion (Contains extra)) (sym none) tt
+
+abbrev pub cubes_in : Option Class → Option (List ℕ)
+cubes_in o = option_map (λ b. b.cubes) o
 
 -- the class of a body of one template
 class_is : (b : Class) → b.template ≡ 0 → b ≡ class_of b.cubes

@@ -11,6 +11,7 @@ use Rattle.sw_filter.specs.declared.filter.Mode.TheVariants.{Breadth}
 use Rattle.sw_filter.specs.Filters.{AreNarrow}
 use Rattle.sw_claims.specs.declared.rule.ClaimView.{ClaimView}
 use Rattle.sw_claims.specs.ClaimsRule.{opened}
+use Rattle.sw_claims.specs.ClaimsSteps.{IsAlone as IsOnly}
 use Rattle.sw_log.specs.declared.entry.Entry.{Entry}
 use Rattle.sw_log.specs.declared.rule.LogView.{LogView}
 use Rattle.sw_log.specs.LogSteps.{IsAlone}
@@ -152,3 +153,9 @@ IsDrew m worker before c d v w b (Stopped reason) = HasStopped c d reason × (c 
 pub record FailsRound (m : Search) (budget : Option ℕ) (c : ClaimView) (v w : LogView) (e : BreadthError) : Type 0 where
   pub cause : IsCause m budget w.seen e
   pub on_the_way : c ≡ opened (length (parts_in m)) 0 → IsLone m v → IsOnTheWay m v (carried e)
+
+-- no other seat is in use, no reason was written and no draw met the end
+pub record IsFirst (c : ClaimView) : Type 0 where
+  pub alone : IsOnly c
+  pub silent : c.wrote ≡ 0
+  pub going : c.ends ≡ 0
