@@ -7,8 +7,8 @@ use Rattle.sw_work.specs.Works.{Gained, Settles}
 use Rattle.sw_work.specs.Steps.{IsFirst, IsPromised, Leads, Stands, searched}
 use Rattle.sw_work.proofs.bench.Desk.draw_parts.Given as goal
 
-abbrev pub invariant-loop-progress : goal.invariant-loop-progress
-invariant-loop-progress g l = record {
+abbrev pub invariant-loop : goal.invariant-loop
+invariant-loop g l = record {
   claims : l.claim_seat.object ≡ l.fn.claim_seat.object;
   parts : l.claim_seat.view.parts ≡ l.fn.claim_seat.view.parts;
   wrote : l.claim_seat.view.wrote ≡ l.fn.claim_seat.view.wrote;
