@@ -49,8 +49,8 @@ impl<'a, B: Candidates + Walk> Desk<'_, 'a, B> {
         progress: Progress,
     ) -> Result<Handed, AllocError>
         requires stands { Stands B.template self.now.task.now bench bench.entries.items }
-        ensures drawn { IfOk result (λ h. h.drawn ≡ progress.entry.drawn) }
-        ensures handed { (before : ℕ) (since : ℕ) → map (λ (x : Settled). x.part) progress.entry.settled ≡ progress.entry.drawn → AllByRecursion (IsPromised (searched B.template self.now.task.now) self.now.task.now.worker before since bench.entry.formulas bench.entry.hand.kept) progress.entry.settled → IfOk result (IsHanded (searched B.template self.now.task.now) self.now.task.now.pool.now self.now.task.now.worker before since bench.entry.formulas) }
+        ensures drawn { IfOk result (λ h. h.drawn ≡ progress.drawn) }
+        ensures handed { (before : ℕ) (since : ℕ) → map (λ (x : Settled). x.part) progress.settled ≡ progress.drawn → AllByRecursion (IsPromised (searched B.template self.now.task.now) self.now.task.now.worker before since bench.entry.formulas bench.entry.hand.kept) progress.settled → IfOk result (IsHanded (searched B.template self.now.task.now) self.now.task.now.pool.now self.now.task.now.worker before since bench.entry.formulas) }
     {
         let own = own_marks(alloc, &bench.hand.mine.shown)?;
         let Bench {
