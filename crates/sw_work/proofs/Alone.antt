@@ -1,18 +1,14 @@
 -- What a worker that has the log by itself comes to.
-use Rattle.std.specs.Prelude.{◌≡◌, ◌≢◌, ℕ, suc, ◌+◌, ◌<◌, ◌≤◌, Bool, true, false, List, [], ◌∷◌, ◌++◌, length, take, slice_get, map, Option, Some, None, IfSome, Contains}
+use Rattle.std.specs.Prelude.{◌≡◌, ◌≢◌, ℕ, ◌+◌, ◌<◌, Bool, true, false, List, [], ◌∷◌, ◌++◌, length, take, slice_get, Option, Some, None, IfSome}
 use Rattle.std.specs.List.{AllByRecursion}
 use Rattle.std.proofs.Common.{refl, arith, sym, ap, ◌∙◌, subst}
 use Rattle.std.proofs.lemmas.Bool.{false≢true}
 use Rattle.std.proofs.lemmas.List.{map-append, length-append, length-map}
 use Rattle.sw_lists.proofs.Each.{each-push, each-weaker}
 use Rattle.sw_logic.specs.declared.syntax.Formula.{Formula}
-use Rattle.sw_meaning.specs.declared.protocol.Protocol.{Protocol}
-use Rattle.sw_meaning.specs.declared.template.Template.{Template}
 use Rattle.sw_meaning.specs.Inductive.{Inductive, Follows}
-use Rattle.sw_meaning.specs.Plain.{Adds, After, Passage, Until, formulas_of}
+use Rattle.sw_meaning.specs.Plain.{After, Passage, Until, formulas_of}
 use Rattle.sw_template.specs.Bodies.{Class}
-use Rattle.sw_filter.specs.declared.filter.Filter.{Filter}
-use Rattle.sw_filter.specs.declared.filter.Mode.{Mode}
 use Rattle.sw_filter.specs.declared.filter.Mode.TheVariants.{Breadth}
 use Rattle.sw_filter.specs.Good.{Good}
 use Rattle.sw_filter.proofs.Good.{good_is_not_missed}
@@ -56,18 +52,22 @@ pub leads_more : (m : Search) (v u w : LogView) (part : Classes) (i : ℕ) (clas
     → Leads m (λ g h. After m.protocol m.template g class h) u w → Leads m (Passage m.protocol m.template (take (i + 1) part)) v w
 leads_more m v u w part i class at a b lone =
     let here = a lone in
-    let then = b here.0 in
-    (then.0, subst (λ xs. Passage m.protocol m.template xs (seen_classes v) (seen_classes w)) (sym (take_one part i class at))
-        (folds_push (After m.protocol m.template) (take i part) class (seen_classes v) (seen_classes u) (seen_classes w) here.1 then.1))
+    let then = b here.0 in (
+      then.0,
+      subst (λ xs. Passage m.protocol m.template xs (seen_classes v) (seen_classes w)) (sym (take_one part i class at))
+          (folds_push (After m.protocol m.template) (take i part) class (seen_classes v) (seen_classes u) (seen_classes w) here.1 then.1),
+    )
 
 -- one more part was settled
 pub leads_part : (m : Search) (v u w : LogView) (i : ℕ) (part : Classes) → slice_get (parts_in m) i ≡ Some part → Leads m (Settles m.protocol m.template (take i (parts_in m))) v u
     → Leads m (Until (Passage m.protocol m.template part)) u w → Leads m (Settles m.protocol m.template (take (i + 1) (parts_in m))) v w
 leads_part m v u w i part at a b lone =
     let here = a lone in
-    let then = b here.0 in
-    (then.0, subst (λ ps. Settles m.protocol m.template ps (seen_classes v) (seen_classes w)) (sym (take_one (parts_in m) i part at))
-        (folds_push (λ from x to. Until (Passage m.protocol m.template x) from to) (take i (parts_in m)) part (seen_classes v) (seen_classes u) (seen_classes w) here.1 then.1))
+    let then = b here.0 in (
+      then.0,
+      subst (λ ps. Settles m.protocol m.template ps (seen_classes v) (seen_classes w)) (sym (take_one (parts_in m) i part at))
+          (folds_push (λ from x to. Until (Passage m.protocol m.template x) from to) (take i (parts_in m)) part (seen_classes v) (seen_classes u) (seen_classes w) here.1 then.1),
+    )
 
 seen_length : (v : LogView) → length (seen_classes v) ≡ length v.seen
 seen_length v = length-map (bodies_of v.seen) (λ (x : Class). x.cubes) ∙ length-map v.seen (λ (x : Entry). x.body)
@@ -105,7 +105,6 @@ pub last_longer : (m : Search) (u w : LogView) (b : Class) → IsLast m u w b �
 last_longer m u w b l = let size : length w.seen ≡ length u.seen + 1 = ap length l.pushed ∙ length-append u.seen (l.entry ∷ []) in omega (arith, size)
 
 module _ (m : Search) where
-
   lone_same : (worker : ℕ) (v w : LogView) → Gained m worker v w → w.seen ≡ v.seen → IsLone m v → IsLone m w
   lone_same worker v w g e a = record {
     alone = alone_gained m worker v w g a.alone;
@@ -120,7 +119,7 @@ module _ (m : Search) where
       let list : fs ≡ formulas_of m.protocol m.template (seen_classes w) = are ∙ formulas_lone m w.seen here.classes in
       let same : seen_classes w ≡ seen_classes v = ap (λ s. classes_of (bodies_of s)) e in
       let by = subst (λ x. Good m.protocol x (formulas_of m.protocol m.template (seen_classes v)) (formula_in m c) (used_filters kept used)) breadth
-          (subst (λ x. Good m.protocol m.mode x (formula_in m c) (used_filters kept used)) (list ∙ ap (formulas_of m.protocol m.template) same) good) in
+      (subst (λ x. Good m.protocol m.mode x (formula_in m c) (used_filters kept used)) (list ∙ ap (formulas_of m.protocol m.template) same) good) in
       (here, After.left (λ adds. adds.novel (good_is_not_missed m.protocol (formulas_of m.protocol m.template (seen_classes v)) (formula_in m c) (used_filters kept used) by adds.inductive)) same)
 
   -- a class that was gained is the last one
@@ -129,8 +128,7 @@ module _ (m : Search) where
       let pushed : w.seen ≡ v.seen ++ last.entry ∷ [] = last.pushed ∙ ap (λ s. s ++ last.entry ∷ []) e in
       let class : IsClass (parts_in m) last.entry.body = subst (IsClass (parts_in m)) (sym last.named) k in
       let list : seen_formulas m u.seen ≡ formulas_of m.protocol m.template (seen_classes v) = ap (seen_formulas m) e ∙ formulas_lone m v.seen lone.classes in
-      let gains = last.gains in
-      (
+      let gains = last.gains in (
         record {
           alone = alone_gained m worker v w g lone.alone;
           classes = subst (AllByRecursion (λ (x : Entry). IsClass (parts_in m) x.body)) (sym pushed) (each-push (λ (x : Entry). IsClass (parts_in m) x.body) v.seen last.entry lone.classes class);

@@ -1,7 +1,7 @@
 -- What a task's classes can be asked, and what an examination of one says.
-use Rattle.std.specs.Prelude.{◌≡◌, ℕ, ◌<◌, ◌≤◌, Bool, true, false, List, [], ◌∷◌, ◌++◌, length, take, Option, option_map, Contains, Result, Ok, Err, IfOk}
+use Rattle.std.specs.Prelude.{◌≡◌, ℕ, Bool, true, List, [], ◌++◌, length, take, Option, option_map, Contains, Result, Ok, Err, IfOk}
 use Rattle.std.specs.List.{AllByRecursion}
-use Rattle.std.proofs.Common.{rules, refl, arith, sym, ap, ◌∙◌, subst, append_assoc}
+use Rattle.std.proofs.Common.{rules, arith, sym, ap, ◌∙◌, subst, append_assoc}
 use Rattle.std.proofs.lemmas.List.{take_at, append-nil}
 use Rattle.sw_logic.specs.declared.syntax.Edge.{Edge}
 use Rattle.sw_logic.specs.declared.syntax.Formula.{Formula}
@@ -12,7 +12,6 @@ use Rattle.sw_logic.specs.declared.syntax.Formula.TheVariants.{True}
 use Rattle.sw_logic.specs.declared.structure.Structure.{Structure}
 use Rattle.sw_logic.specs.declared.query.Query.{Query}
 use Rattle.sw_logic.specs.Queries.{IsSentence}
-use Rattle.sw_meaning.specs.declared.protocol.Protocol.{Protocol}
 use Rattle.sw_meaning.specs.declared.template.Template.{Template}
 use Rattle.sw_meaning.specs.Classes.{formula_of}
 use Rattle.sw_meaning.specs.Inductive.{AtStart, Kept, Follows}
@@ -20,8 +19,6 @@ use Rattle.sw_queries.specs.Counterexamples.{DoesNotFollow}
 use Rattle.sw_query_laws.specs.Edges.{AddsAmong}
 use Rattle.sw_template.specs.Bodies.{Class}
 use Rattle.sw_filter.specs.declared.filter.Filter.{Filter}
-use Rattle.sw_filter.specs.declared.filter.Mode.{Mode}
-use Rattle.sw_filter.specs.declared.filter.Mode.TheVariants.{Breadth}
 use Rattle.sw_filter.specs.Filters.{IsLive}
 use Rattle.sw_examine.specs.Answers.{CanAsk}
 use Rattle.sw_filter.specs.Good.{Good}
@@ -66,10 +63,13 @@ keeps_same a b e = ([], e ∙ sym (append-nil a))
 -- what a look comes to, after the hand has grown
 pub tried_on : {S : Type 0} (m : Search) (v w : LogView) (old mid new : Bench S) (b : Class) (t : Tried) → Grows old.hand.kept old.hand.used.items mid.hand.kept mid.hand.used.items
     → IsTried m v w mid new b t → IsTried m v w old new b t
-tried_on m v w old mid new b tried.Good g h = (h.0, record {
-  grows = grows_on old.hand.kept old.hand.used.items mid.hand.kept mid.hand.used.items new.hand.kept new.hand.used.items g h.1.grows;
-  good = h.1.good;
-})
+tried_on m v w old mid new b tried.Good g h = (
+  h.0,
+  record {
+    grows = grows_on old.hand.kept old.hand.used.items mid.hand.kept mid.hand.used.items new.hand.kept new.hand.used.items g h.1.grows;
+    good = h.1.good;
+  },
+)
 tried_on m v w old mid new b tried.Added g h = h
 tried_on m v w old mid new b tried.Behind g h = h
 

@@ -1,11 +1,10 @@
 -- What the draws of a round tell.
-use Rattle.std.specs.Prelude.{◌≡◌, ◌⊎◌, ℕ, zero, suc, ◌+◌, ◌<◌, ◌≤◌, true, List, [], ◌∷◌, ◌++◌, map, length, take}
-use Rattle.std.proofs.Common.{refl, arith, sym, ap, ◌∙◌, subst, append_assoc, inl, inr, ⊎_elim}
-use Rattle.std.proofs.lemmas.List.{length-append, append-nil}
+use Rattle.std.specs.Prelude.{◌≡◌, ℕ, zero, suc, ◌≤◌, List, [], ◌∷◌, ◌++◌, length}
+use Rattle.std.proofs.Common.{refl, arith, sym, ap, ◌∙◌, subst, append_assoc, inl, inr}
 use Rattle.sw_claims.specs.declared.rule.ClaimView.{ClaimView}
 use Rattle.sw_claims.specs.ClaimsAnswers.{DrawsNumber, MeetsEnd, SeesReason, Stops}
 use Rattle.sw_claims.specs.ClaimsRule.{opened}
-use Rattle.sw_claims.specs.ClaimsSteps.{IsAlone, Finds, looked}
+use Rattle.sw_claims.specs.ClaimsSteps.{IsAlone, looked}
 use Rattle.sw_work.specs.Works.{HasDrawn, HasStopped}
 use Rattle.sw_work.specs.Steps.{IsFirst}
 

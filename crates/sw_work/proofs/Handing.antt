@@ -1,15 +1,13 @@
 -- What a worker hands back of a round, and how a round fails.
-use Rattle.std.specs.Prelude.{◌≡◌, ℕ, ◌≤◌, Bool, List, [], ◌∷◌, ◌++◌, map, length, Option, IfSome, Result, Ok, Err, IfOk}
+use Rattle.std.specs.Prelude.{◌≡◌, ℕ, ◌≤◌, Bool, List, [], ◌∷◌, ◌++◌, map, length, Option, IfSome}
 use Rattle.std.specs.List.{AllByRecursion, AllZip}
-use Rattle.std.proofs.Common.{arith, sym, ap, ◌∙◌, subst}
+use Rattle.std.proofs.Common.{arith, sym, subst}
 use Rattle.sw_lists.proofs.Each.{each-map, each-unmap, each-weaker}
 use Rattle.sw_logic.specs.declared.syntax.Formula.{Formula}
-use Rattle.sw_filter.specs.declared.filter.Filter.{Filter}
 use Rattle.sw_filter.specs.declared.view.Shown.{Shown}
 use Rattle.sw_filter.specs.Filters.{IsAdmitted}
 use Rattle.sw_filter.specs.Views.{AreAdmitted}
 use Rattle.sw_pool.specs.declared.pool.Pool.{Pool}
-use Rattle.sw_pool.specs.declared.pool.Seen.{Seen}
 use Rattle.sw_pool.specs.Pools.{IsShown, filter_of}
 use Rattle.sw_claims.specs.declared.rule.ClaimView.{ClaimView}
 use Rattle.sw_log.specs.declared.rule.LogView.{LogView}
@@ -19,14 +17,13 @@ use Rattle.sw_core.specs.Machine.{Search, parts_in}
 use Rattle.sw_core.specs.Gathered.{IsSettledBy, IsTimely, filters_of}
 use Rattle.sw_walk.specs.Parts.{classes_of}
 use Rattle.sw_hand.specs.declared.hand.Handed.{Handed}
-use Rattle.sw_hand.specs.Hands.{IsHand, IsHanded, AreTokens}
+use Rattle.sw_hand.specs.Hands.{IsHand, IsHanded}
 use Rattle.sw_work.specs.declared.bench.Bench.{Bench}
 use Rattle.sw_work.specs.declared.drawing.Progress.{Progress}
 use Rattle.sw_work.specs.declared.errors.BreadthError.{BreadthError}
 use Rattle.sw_work.specs.declared.working.Worked.TheVariants.{Done}
-use Rattle.sw_work.specs.Works.{HasDrawn, IsAloneAt, IsWorked, Settles, BeginsWith, bodies_of, carried, seen_formulas}
+use Rattle.sw_work.specs.Works.{HasDrawn, IsWorked, Settles, BeginsWith, bodies_of, carried, seen_formulas}
 use Rattle.sw_work.specs.Steps.{FailsRound, HasSettled, IsLone, IsPromised, Looks}
-use Rattle.sw_work.proofs.Begins.{prefix_le}
 use Rattle.sw_work.proofs.Seen.{lone_looks}
 
 zip_map : {A B C : Type 0} (P : A → C → Type 0) (f : B → C) (xs : List A) (ys : List B) → AllZip (λ a b. P a (f b)) xs ys → AllZip P xs (map f ys)
@@ -58,6 +55,7 @@ module _ (m : Search) (pool : Pool) (worker before : ℕ) where
         (subst (AllZip (λ token x. IsShown pool token × (filter_of token ≡ x)) h.tokens.items) (sym hand.same)
         (zip_map (λ token x. IsShown pool token × (filter_of token ≡ x)) (λ (e : Shown). e.filter.now) h.tokens.items shown hand.shows));
   }
+
   pub earlier : (since from : ℕ) (formulas : List Formula) (kept : List Kept) (xs : List Settled) → from ≤ since → AllByRecursion (IsPromised m worker before since formulas kept) xs → AllByRecursion (IsPromised m worker before from formulas kept) xs
   earlier since from formulas kept xs le all = each-weaker (IsPromised m worker before since formulas kept) (IsPromised m worker before from formulas kept)
       (λ x p. record { settled = p.settled; timely = λ filters e. let t = p.timely filters e in let later = t.since in record { since = omega (arith, le, later); places = t.places; live = t.live } }) xs all

@@ -1,5 +1,5 @@
 -- Settlements as a share promises them: how they come about, and that they stay.
-use Rattle.std.specs.Prelude.{◌≡◌, ℕ, zero, suc, ◌+◌, ◌<◌, ◌≤◌, Bool, true, false, List, [], ◌∷◌, ◌++◌, map, length, take, slice_get, unwrap_or}
+use Rattle.std.specs.Prelude.{◌≡◌, ℕ, suc, ◌+◌, ◌<◌, ◌≤◌, Bool, true, false, List, [], ◌∷◌, ◌++◌, map, length, take, slice_get, unwrap_or}
 use Rattle.std.specs.List.{AllByRecursion, cons_option}
 use Rattle.std.proofs.Common.{refl, arith, sym, ap, ◌∙◌, subst, append_assoc}
 use Rattle.std.proofs.lemmas.List.{length-append, length-map, map-append, take-append-le}
@@ -50,11 +50,11 @@ module _ (m : Search) (worker before since : ℕ) where
       let whole : take x.under formulas ≡ formulas = take_whole formulas x.under (omega (arith, u)) in
       let size : length (filters_of kept) ≡ length kept = length-map kept (λ (k : Kept). k.filter) in
       let named : (filters : List Filter) → length filters ≡ before → filters_at (filters ++ filters_of kept) x.by ≡ used_filters kept used =
-          λ filters e. ap (filters_at (filters ++ filters_of kept)) b ∙ filters_behind before filters (filters_of kept) (used_from 0 used) e in
+      λ filters e. ap (filters_at (filters ++ filters_of kept)) b ∙ filters_behind before filters (filters_of kept) (used_from 0 used) e in
       let none : 0 + length used ≡ length kept = omega (arith, h.marks) in
       let places : (filters : List Filter) → length filters ≡ before → AreBelow (length (filters ++ filters_of kept)) x.by =
-          λ filters e. subst (AreBelow (length (filters ++ filters_of kept))) (sym b)
-          (below_behind before (length kept) (length (filters ++ filters_of kept)) (used_from 0 used) (omega (arith, e, size, length-append filters (filters_of kept))) (subst (λ n. AreBelow n (used_from 0 used)) none (below_used 0 used))) in
+      λ filters e. subst (AreBelow (length (filters ++ filters_of kept))) (sym b)
+      (below_behind before (length kept) (length (filters ++ filters_of kept)) (used_from 0 used) (omega (arith, e, size, length-append filters (filters_of kept))) (subst (λ n. AreBelow n (used_from 0 used)) none (below_used 0 used))) in
       record {
         settled = λ filters e. record {
           by_worker = w;

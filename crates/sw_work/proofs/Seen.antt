@@ -1,12 +1,12 @@
 -- The list of a log: its formulas, and what a worker gained of it.
-use Rattle.std.specs.Prelude.{◌≡◌, ℕ, zero, suc, ◌+◌, ◌-◌, ◌<◌, ◌≤◌, ◌==◌, ◌&&◌, Bool, true, false, List, [], ◌∷◌, ◌++◌, map, length, take, drop, Some, slice_get, Contains, if◌then◌else◌}
+use Rattle.std.specs.Prelude.{◌≡◌, ℕ, zero, suc, ◌-◌, ◌≤◌, ◌==◌, Bool, true, false, List, [], ◌∷◌, ◌++◌, length, take, drop, Some, slice_get, Contains}
 use Rattle.std.specs.List.{AllByRecursion, list_any}
 use Rattle.std.proofs.Common.{refl, arith, sym, ap, ◌∙◌, subst, eq-eqb, append_assoc}
 use Rattle.std.proofs.lemmas.Bool.{false≢true, and_parts, and_from, eqb-true, cond-true, cond-false}
-use Rattle.std.proofs.lemmas.List.{map-append, length-map, append-nil, length-append, take-append-le, take_at, length-drop}
+use Rattle.std.proofs.lemmas.List.{map-append, length-map, append-nil, take-append-le, take_at, length-drop}
 use Rattle.std.proofs.lemmas.Option.{none-some}
 use mathlib.Core.List.{IsPrefix}
-use Rattle.sw_lists.proofs.Each.{each-append, each-weaker, each-map}
+use Rattle.sw_lists.proofs.Each.{each-append, each-weaker}
 use Rattle.sw_lists.proofs.Places.{get_append_left, get_append_at}
 use Rattle.sw_lists.proofs.Tests.{some_true, any_true}
 use Rattle.sw_logic.specs.declared.syntax.Formula.{Formula}

@@ -1,9 +1,8 @@
 -- What a worker has in hand between two steps, and what each of its steps comes to.
-use Rattle.std.specs.Prelude.{◌≡◌, ℕ, ◌<◌, ◌≤◌, Bool, true, false, List, [], ◌∷◌, ◌++◌, length, map, Option, IfSome}
+use Rattle.std.specs.Prelude.{◌≡◌, ℕ, ◌<◌, Bool, true, false, List, [], ◌∷◌, ◌++◌, length, map, Option, IfSome}
 use Rattle.std.specs.List.{AllByRecursion}
 use mathlib.Core.List.{IsPrefix}
 use Rattle.sw_logic.specs.declared.syntax.Formula.{Formula}
-use Rattle.sw_meaning.specs.declared.protocol.Protocol.{Protocol}
 use Rattle.sw_meaning.specs.declared.template.Template.{Template}
 use Rattle.sw_template.specs.Bodies.{Class}
 use Rattle.sw_filter.specs.declared.filter.Filter.{Filter}
@@ -20,7 +19,7 @@ use Rattle.sw_core.specs.declared.record.Settled.{Settled}
 use Rattle.sw_core.specs.Machine.{Search, formula_in, parts_in}
 use Rattle.sw_core.specs.Founded.{Gains}
 use Rattle.sw_core.specs.Gathered.{IsSettledBy, IsTimely, filters_of}
-use Rattle.sw_walk.specs.Parts.{part_at, classes_of, IsClass}
+use Rattle.sw_walk.specs.Parts.{classes_of, IsClass}
 use Rattle.sw_hand.specs.declared.hand.Hand.{Hand}
 use Rattle.sw_hand.specs.declared.hand.Task.{Task}
 use Rattle.sw_hand.specs.Hands.{search_of, IsView, IsHand, AreTokens, Grows, IsGoodBy}

@@ -1,5 +1,5 @@
 -- What a worker does in a round of breadth, and why it may end without an answer.
-use Rattle.std.specs.Prelude.{◌≡◌, ℕ, ◌≤◌, ◌<◌, ◌==◌, ◌&&◌, Bool, true, false, List, [], ◌∷◌, ◌++◌, map, length, take, Option, Some, IfSome, Contains, slice_get, if◌then◌else◌}
+use Rattle.std.specs.Prelude.{◌≡◌, ℕ, ◌≤◌, ◌==◌, ◌&&◌, Bool, true, false, List, [], ◌∷◌, ◌++◌, map, length, take, Option, Some, IfSome, Contains, slice_get, if◌then◌else◌}
 use Rattle.std.specs.List.{AllByRecursion, FoldsTo, list_any}
 use mathlib.Core.List.{IsPrefix}
 use Rattle.sw_logic.specs.declared.syntax.Edge.{Edge}

@@ -181,12 +181,10 @@ impl<'a, B: Candidates + Walk> Desk<'_, 'a, B> {
         ensures tried { IfOk result (IsTried (searched B.template self.now.task.now) seat.old.view seat.new.view bench.old bench.new body.now) }
         ensures cause { IfErr result (IsCauseAt (searched B.template self.now.task.now) self.now.budget seat.old.view seat.new.view) }
     {
-        if self.task.sift(
-            alloc,
-            &mut bench.hand,
-            bench.formulas.as_slice(),
-            body,
-        )? {
+        if self
+            .task
+            .sift(alloc, &mut bench.hand, bench.formulas.as_slice(), body)?
+        {
             return Ok(Tried::Good);
         }
         self.examined(rt, alloc, bench, seat, body)

@@ -1,4 +1,4 @@
-use Rattle.std.proofs.Common.{◌≡◌, List, refl, sym, subst}
+use Rattle.std.proofs.Common.{List, refl, subst}
 use Rattle.sw_logic.specs.declared.syntax.Formula.{Formula}
 use Rattle.sw_template.specs.Bodies.{Class}
 use Rattle.sw_core.specs.Machine.{Search}
@@ -13,8 +13,7 @@ returns-then-branch-clause-tried g c =
     let task = c.args.self.now.task.now in
     let m : Search = searched g.B.Walk.template task in
     let body : Class = c.args.body.now in
-    let h = c.sift.new.hand in
-    (
+    let h = c.sift.new.hand in (
       refl,
       record {
         grows = c.in_ok-sift.ensures.grows;

@@ -1,4 +1,4 @@
-use Rattle.std.proofs.Common.{◌≡◌, ◌++◌, ◌∷◌, [], ◌+◌, ◌<◌, ◌≤◌, ℕ, List, Some, length, map, take, slice_get, arith, sym, ap, ◌∙◌, subst}
+use Rattle.std.proofs.Common.{◌≡◌, ◌++◌, ◌∷◌, [], ◌+◌, ◌<◌, ℕ, List, Some, length, map, take, slice_get, arith, sym, ap, ◌∙◌, subst}
 use Rattle.std.specs.List.{AllByRecursion}
 use Rattle.std.proofs.lemmas.List.{length-append, map-append}
 use Rattle.sw_lists.proofs.Each.{each-push}
@@ -7,7 +7,6 @@ use Rattle.sw_claims.specs.declared.rule.ClaimView.{ClaimView}
 use Rattle.sw_claims.specs.ClaimsAnswers.{DrawsNumber, MeetsEnd, SeesReason}
 use Rattle.sw_claims.specs.ClaimsRule.{opened}
 use Rattle.sw_claims.specs.ClaimsSteps.{looked}
-use Rattle.sw_log.specs.declared.entry.Entry.{Entry}
 use Rattle.sw_core.specs.declared.record.Settled.{Settled}
 use Rattle.sw_core.specs.Machine.{Search, parts_in}
 use Rattle.sw_walk.specs.Parts.{part_at}
@@ -105,7 +104,7 @@ returns-in_err-settled-in-Number-clause-cause g c =
     let part : List (List ℕ) = part_at ps n in
     let at : slice_get (parts_in m) n ≡ Some part = ap (λ (qs : List (List (List ℕ))). slice_get qs n) (sym c.requires.can.can.are_parts) ∙ part_found ps n below in
     let leads : o ≡ opened (length (parts_in m)) 0 → Leads m (Settles m.protocol m.template (take n (parts_in m))) v u =
-        λ only. subst (λ (k : ℕ). Leads m (Settles m.protocol m.template (take k (parts_in m))) v u) (sym (number_is o cl d (length (parts_in m)) n drawn only draws inv.drawn (inv.only only))) (inv.leads only) in
+    λ only. subst (λ (k : ℕ). Leads m (Settles m.protocol m.template (take k (parts_in m))) v u) (sym (number_is o cl d (length (parts_in m)) n drawn only draws inv.drawn (inv.only only))) (inv.leads only) in
     passed (FailsRound m c.args.self.now.budget o v w) c.in_err-settled-in-Number.field-0.0 c.from_residual.result c.from_residual.ensures.1
     (fails_round m c.args.self.now.budget n part o v u w c.in_err-settled-in-Number.field-0.0 at leads c.in_err-settled-in-Number.ensures.cause)
 
@@ -166,14 +165,14 @@ loop-preserved g c =
     let part : List (List ℕ) = part_at ps n in
     let at : slice_get (parts_in m) n ≡ Some part = ap (λ (qs : List (List (List ℕ))). slice_get qs n) (sym c.requires.can.can.are_parts) ∙ part_found ps n below in
     let leads : o ≡ opened (length (parts_in m)) 0 → Leads m (Settles m.protocol m.template (take n (parts_in m))) v u =
-        λ only. subst (λ (k : ℕ). Leads m (Settles m.protocol m.template (take k (parts_in m))) v u) (sym (number_is o cl d (length (parts_in m)) n drawn only draws inv.drawn (inv.only only))) (inv.leads only) in
+    λ only. subst (λ (k : ℕ). Leads m (Settles m.protocol m.template (take k (parts_in m))) v u) (sym (number_is o cl d (length (parts_in m)) n drawn only draws inv.drawn (inv.only only))) (inv.leads only) in
     let ens = c.in_ok-settled-in-Number.ensures in
     let x : Settled = c.in_ok-settled-in-Number.settled in
     let more : c.push.new.self ≡ drawn ++ n ∷ [] = c.in_ok-push-in-Number.ensures.ok in
     let settled : c.push-in-Number.new.self ≡ c.loop.progress.settled ++ x ∷ [] = c.in_ok-push-in-Number-2.ensures.ok in
     let begins = c.settle_part.ensures.gained.begins in
     let formulas : c.settle_part.new.bench.formulas ≡ c.loop.bench.formulas ++ seen_formulas m begins.0 =
-        ens.stands.fits.are ∙ (ap (seen_formulas m) (sym begins.1) ∙ (seen_append m u.seen begins.0 ∙ ap (λ (fs : List Formula). fs ++ seen_formulas m begins.0) (sym inv.stands.fits.are))) in
+    ens.stands.fits.are ∙ (ap (seen_formulas m) (sym begins.1) ∙ (seen_append m u.seen begins.0 ∙ ap (λ (fs : List Formula). fs ++ seen_formulas m begins.0) (sym inv.stands.fits.are))) in
     let since = length v.seen in
     let promise : Settled → Type 0 = IsPromised m task.worker c.args.before since c.settle_part.new.bench.formulas c.settle_part.new.bench.hand.kept in
     record {

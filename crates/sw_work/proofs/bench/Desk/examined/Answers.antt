@@ -1,10 +1,10 @@
-use Rattle.std.proofs.Common.{◌≡◌, ℕ, List, sym, ap, ◌∙◌, subst, refl}
+use Rattle.std.proofs.Common.{◌≡◌, List, sym, ap, ◌∙◌, subst, refl}
 use Rattle.sw_logic.specs.declared.syntax.Formula.{Formula}
 use Rattle.sw_logic.specs.declared.query.Query.{Query}
 use Rattle.sw_meaning.specs.Inductive.{Follows, Kept}
 use Rattle.sw_queries.specs.Counterexamples.{DoesNotFollow}
 use Rattle.sw_template.specs.Bodies.{Class}
-use Rattle.sw_examine.specs.Answers.{CanAsk, IsSpentBy, IsTooLargeBy}
+use Rattle.sw_examine.specs.Answers.{IsSpentBy, IsTooLargeBy}
 use Rattle.sw_examine.specs.Examinations.{IsExamined, Rejection}
 use Rattle.sw_core.specs.Machine.{Search}
 use Rattle.sw_work.specs.Works.{bodies_of}

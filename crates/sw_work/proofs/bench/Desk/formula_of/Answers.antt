@@ -1,7 +1,6 @@
-use Rattle.std.proofs.Common.{◌≡◌, ℕ, List, sym, ap, ◌∙◌, subst}
+use Rattle.std.proofs.Common.{◌≡◌, sym, ◌∙◌}
 use Rattle.std.proofs.lemmas.Bool.{false≢true}
 use Rattle.sw_logic.specs.declared.syntax.Formula.{Formula}
-use Rattle.sw_meaning.specs.declared.template.Template.{Template}
 use Rattle.sw_template.specs.Bodies.{Class}
 use Rattle.sw_core.specs.Machine.{Search}
 use Rattle.sw_walk.specs.Parts.{IsClass}

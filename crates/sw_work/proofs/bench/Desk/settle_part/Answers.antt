@@ -1,4 +1,4 @@
-use Rattle.std.proofs.Common.{◌≡◌, ◌≤◌, ℕ, List, length, arith, sym, ap, ◌∙◌, subst}
+use Rattle.std.proofs.Common.{◌≡◌, ◌≤◌, ℕ, List, length, arith, ap, ◌∙◌}
 use Rattle.sw_log.specs.declared.entry.Entry.{Entry}
 use Rattle.sw_meaning.specs.Plain.{Passage, Until}
 use Rattle.sw_core.specs.Machine.{Search}

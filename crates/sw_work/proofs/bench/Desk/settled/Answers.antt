@@ -1,7 +1,6 @@
-use Rattle.std.proofs.Common.{rules, ◌≡◌, ◌≤◌, List, length, refl, sym, ap, ◌∙◌, subst}
+use Rattle.std.proofs.Common.{rules, ◌≡◌, ◌≤◌, length, refl, sym, ap, ◌∙◌, subst}
 use Rattle.std.specs.List.{AllByRecursion}
-use Rattle.sw_log.specs.declared.entry.Entry.{Entry}
-use Rattle.sw_core.specs.Machine.{Search, parts_in}
+use Rattle.sw_core.specs.Machine.{Search}
 use Rattle.sw_walk.specs.Parts.{part_at}
 use Rattle.sw_hand.specs.Hands.{IsGoodBy}
 use Rattle.sw_work.specs.Steps.{searched}
