@@ -1,0 +1,141 @@
+-- What the draws of a claim seat come to.
+use Rattle.std.specs.Prelude.{◌≡◌, ℕ, ◌+◌, ◌<◌, ◌≤◌, true, List, [], ◌∷◌, ◌++◌, length, take, Option, Contains}
+use Rattle.std.specs.List.{flat_map}
+use Rattle.std.proofs.Common.{refl, arith, sym, ap, ◌∙◌, subst, inl, inr, append_assoc, length-append}
+use Rattle.std.proofs.lemmas.Bool.{cases_lt}
+use Rattle.std.proofs.lemmas.List.{append-nil}
+use Rattle.sw_logic.specs.declared.syntax.Formula.{Formula}
+use Rattle.sw_claims.specs.declared.rule.ClaimView.{ClaimView}
+use Rattle.sw_claims.specs.ClaimsAnswers.{DrawsNumber, MeetsEnd, SeesReason, Stops, WritesReason}
+use Rattle.sw_claims.specs.ClaimsRule.{opened}
+use Rattle.sw_claims.specs.ClaimsSteps.{IsAlone, looked}
+use Rattle.sw_core.specs.Machine.{Search, parts_in}
+use Rattle.sw_walk.specs.Parts.{part_at, all_classes}
+use Rattle.sw_hand.specs.Seats.{HasDrawn, HasStopped}
+use Rattle.sw_seek.specs.declared.considering.Found.{Found}
+use Rattle.sw_seek.specs.Seeking.{NoneJoins, IsFirstJoined, HasFound}
+use Rattle.sw_seek.specs.Steps.{IsFound, Meets}
+use Rattle.sw_seek.proofs.Firsts.{all_more, drawn_more, none_of_none, none_drawn, first_drawn, first_of_all, first_among, in_all}
+
+-- the seat has drawn these, and no reason was written
+pub record Runs (c d : ClaimView) (drawn : List ℕ) : Type 0 where
+  pub drawn_is : d.drawn ≡ c.drawn ++ drawn
+  pub wrote_is : d.wrote ≡ c.wrote
+  pub parts_is : d.parts ≡ c.parts
+  pub first_is : d.first ≡ c.first
+  pub out_is : d.out ≡ c.out
+
+pub runs_none : (c : ClaimView) → Runs c c []
+runs_none c = record { drawn_is = sym (append-nil c.drawn); wrote_is = refl; parts_is = refl; first_is = refl; out_is = refl }
+
+pub runs_more : (c v w : ClaimView) (drawn : List ℕ) (n : ℕ) → Runs c v drawn → DrawsNumber (looked v) n w → Runs c w (drawn ++ n ∷ [])
+runs_more c v w drawn n r h = record {
+  drawn_is = ap (λ (x : ClaimView). x.drawn) h.gained ∙ (ap (λ xs. xs ++ n ∷ []) r.drawn_is ∙ append_assoc c.drawn drawn (n ∷ []));
+  wrote_is = ap (λ (x : ClaimView). x.wrote) h.gained ∙ r.wrote_is;
+  parts_is = ap (λ (x : ClaimView). x.parts) h.gained ∙ r.parts_is;
+  first_is = ap (λ (x : ClaimView). x.first) h.gained ∙ r.first_is;
+  out_is = ap (λ (x : ClaimView). x.out) h.gained ∙ r.out_is;
+}
+
+-- alone it has drawn the first ones, in order
+alone_still : (c v : ClaimView) (drawn : List ℕ) (parts : ℕ) → Runs c v drawn → c ≡ opened parts 0 → IsAlone (looked v)
+alone_still c v drawn parts r e = (r.first_is ∙ ap (λ (x : ClaimView). x.first) e, r.out_is ∙ ap (λ (x : ClaimView). x.out) e)
+
+pub record Passed (m : Search) (g : List Formula) (c : ClaimView) (drawn : List ℕ) : Type 0 where
+  pub none : NoneJoins m.protocol m.template g (flat_map (part_at (parts_in m)) drawn)
+  pub alone : c ≡ opened (length (parts_in m)) 0 → flat_map (part_at (parts_in m)) drawn ≡ all_classes (take (length drawn) (parts_in m))
+
+pub passed_none : (m : Search) (g : List Formula) (c : ClaimView) → Passed m g c []
+passed_none m g c = record { none = none_of_none m.protocol m.template g; alone = λ e. refl }
+
+module _ (m : Search) (g : List Formula) (c v w : ClaimView) (drawn : List ℕ) (n : ℕ) (r : Runs c v drawn) (h : DrawsNumber (looked v) n w) where
+  pub below_parts : c.parts ≡ length (parts_in m) → n < length (parts_in m)
+  below_parts e = omega (arith, h.below, r.parts_is, e)
+
+  alone_more : c.parts ≡ length (parts_in m) → Passed m g c drawn → c ≡ opened (length (parts_in m)) 0 → flat_map (part_at (parts_in m)) (drawn ++ n ∷ []) ≡ all_classes (take (length (drawn ++ n ∷ [])) (parts_in m))
+  alone_more count p e =
+      let ps = parts_in m in
+      let all : v.drawn ≡ drawn = r.drawn_is ∙ ap (λ (x : ClaimView). x.drawn ++ drawn) e in
+      let next : n ≡ length drawn = h.alone (alone_still c v drawn (length ps) r e) ∙ ap length all in
+      let size : length (drawn ++ n ∷ []) ≡ n + 1 = omega (arith, length-append drawn (n ∷ []), next) in
+      drawn_more ps drawn n ∙ (ap (λ cs. cs ++ part_at ps n) (p.alone e ∙ ap (λ k. all_classes (take k ps)) (sym next))
+      ∙ (sym (all_more ps n (below_parts count)) ∙ ap (λ k. all_classes (take k ps)) (sym size)))
+
+  pub passed_more : c.parts ≡ length (parts_in m) → Passed m g c drawn → NoneJoins m.protocol m.template g (part_at (parts_in m) n) → Passed m g c (drawn ++ n ∷ [])
+  passed_more count p none = record {
+    none = none_drawn m.protocol m.template g (parts_in m) drawn n p.none none;
+    alone = alone_more count p;
+  }
+
+  -- a class that joins in the part that was drawn
+  pub meets : (budget : Option ℕ) (f : Found) → c.parts ≡ length (parts_in m) → Passed m g c drawn → IsFound m g budget (part_at (parts_in m) n) f → Meets m g budget c w f
+  meets budget f count p found =
+      let ps = parts_in m in
+      let among : Contains (part_at ps n) f.body.cubes = first_among m.protocol m.template g (part_at ps n) f.body.cubes found.first in
+      let first : IsFirstJoined m.protocol m.template g (flat_map (part_at ps) (drawn ++ n ∷ [])) f.body.cubes = first_drawn m.protocol m.template g ps drawn n f.body.cubes p.none found.first in
+      record {
+        drawn = drawn;
+        last = n;
+        gained = (runs_more c v w drawn n r h).drawn_is;
+        class = record { single = found.single; among = in_all ps n f.body.cubes (below_parts count) among };
+        first = first;
+        among = among;
+        joined = found.joined;
+        alone = λ e. first_of_all m.protocol m.template g ps (length (drawn ++ n ∷ [])) f.body.cubes (subst (λ cs. IsFirstJoined m.protocol m.template g cs f.body.cubes) (alone_more count p e) first);
+      }
+
+-- ---- the other ends
+pub has_drawn : (c v w : ClaimView) (drawn : List ℕ) → Runs c v drawn → MeetsEnd (looked v) w → HasDrawn c w drawn
+has_drawn c v w drawn r h = elim (cases_lt 0 v.ends) [
+  | inl some ↦
+      let is : w ≡ looked v = h.earlier some in
+      record {
+        gained = ap (λ (x : ClaimView). x.drawn) is ∙ r.drawn_is;
+        ended = omega (arith, ap (λ (x : ClaimView). x.ends) is);
+        wrote = ap (λ (x : ClaimView). x.wrote) is ∙ r.wrote_is;
+        parts = ap (λ (x : ClaimView). x.parts) is ∙ r.parts_is;
+      }
+  | inr none ↦
+      let is = h.now (omega arith) in
+      record {
+        gained = ap (λ (x : ClaimView). x.drawn) is ∙ r.drawn_is;
+        ended = omega (arith, ap (λ (x : ClaimView). x.ends) is);
+        wrote = ap (λ (x : ClaimView). x.wrote) is ∙ r.wrote_is;
+        parts = ap (λ (x : ClaimView). x.parts) is ∙ r.parts_is;
+      }
+]
+
+pub has_stopped : (c v w : ClaimView) (drawn : List ℕ) (reason : ℕ) → Runs c v drawn → SeesReason (looked v) reason w → HasStopped c w reason
+has_stopped c v w drawn reason r h = record {
+  some = h.reason;
+  seen = ap (λ (x : ClaimView). x.seen) h.seen;
+  wrote = ap (λ (x : ClaimView). x.wrote) h.seen ∙ r.wrote_is;
+}
+
+-- alone, no reason stands
+pub none_stops : (c v w : ClaimView) (drawn : List ℕ) (reason parts : ℕ) → Runs c v drawn → SeesReason (looked v) reason w → c ≡ opened parts 0 → ⊥
+none_stops c v w drawn reason parts r h e =
+    let found : reason ≡ v.wrote = h.found.alone (alone_still c v drawn parts r e) in
+    let zero_is : c.wrote ≡ 0 = ap (λ (x : ClaimView). x.wrote) e in
+    absurd (omega (arith, found, r.wrote_is, zero_is, h.reason))
+
+-- ---- the claims are stopped
+pub stop_seen : (d e : ClaimView) (reason r : ℕ) → 1 ≤ reason → Stops d reason r e → 1 ≤ e.seen
+stop_seen d e reason r some (inl w) = omega (arith, ap (λ (x : ClaimView). x.seen) w.written)
+stop_seen d e reason r some (inr s) = omega (arith, ap (λ (x : ClaimView). x.seen) s.seen, s.reason)
+
+stop_drawn : (d e : ClaimView) (reason r : ℕ) → Stops d reason r e → e.drawn ≡ d.drawn
+stop_drawn d e reason r (inl w) = ap (λ (x : ClaimView). x.drawn) w.written
+stop_drawn d e reason r (inr s) = ap (λ (x : ClaimView). x.drawn) s.seen
+
+pub has_found : (m : Search) (g : List Formula) (budget : Option ℕ) (c d e : ClaimView) (f : Found) (reason r : ℕ) → 1 ≤ reason → Meets m g budget c d f → Stops d reason r e → HasFound m g budget c e f.body f.start f.steps
+has_found m g budget c d e f reason r some x s = record {
+  drawn = x.drawn;
+  last = x.last;
+  gained = stop_drawn d e reason r s ∙ x.gained;
+  seen = stop_seen d e reason r some s;
+  class = x.class;
+  first = x.first;
+  among = x.among;
+  joined = x.joined;
+}
