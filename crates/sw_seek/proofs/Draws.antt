@@ -1,19 +1,17 @@
 -- What the draws of a claim seat come to.
-use Rattle.std.specs.Prelude.{◌≡◌, ℕ, ◌+◌, ◌<◌, ◌≤◌, true, List, [], ◌∷◌, ◌++◌, length, take, Option, Contains}
+use Rattle.std.specs.Prelude.{◌≡◌, ℕ, ◌+◌, ◌<◌, List, [], ◌∷◌, ◌++◌, length, take, Option, Contains}
 use Rattle.std.specs.List.{flat_map}
-use Rattle.std.proofs.Common.{refl, arith, sym, ap, ◌∙◌, subst, inl, inr, append_assoc, length-append}
-use Rattle.std.proofs.lemmas.Bool.{cases_lt}
+use Rattle.std.proofs.Common.{refl, arith, sym, ap, ◌∙◌, subst, append_assoc, length-append}
 use Rattle.std.proofs.lemmas.List.{append-nil}
 use Rattle.sw_logic.specs.declared.syntax.Formula.{Formula}
 use Rattle.sw_claims.specs.declared.rule.ClaimView.{ClaimView}
-use Rattle.sw_claims.specs.ClaimsAnswers.{DrawsNumber, MeetsEnd, SeesReason, Stops, WritesReason}
+use Rattle.sw_claims.specs.ClaimsAnswers.{DrawsNumber}
 use Rattle.sw_claims.specs.ClaimsRule.{opened}
 use Rattle.sw_claims.specs.ClaimsSteps.{IsAlone, looked}
 use Rattle.sw_core.specs.Machine.{Search, parts_in}
 use Rattle.sw_walk.specs.Parts.{part_at, all_classes}
-use Rattle.sw_hand.specs.Seats.{HasDrawn, HasStopped}
 use Rattle.sw_seek.specs.declared.considering.Found.{Found}
-use Rattle.sw_seek.specs.Seeking.{NoneJoins, IsFirstJoined, HasFound}
+use Rattle.sw_seek.specs.Seeking.{NoneJoins, IsFirstJoined}
 use Rattle.sw_seek.specs.Steps.{IsFound, Meets}
 use Rattle.sw_seek.proofs.Firsts.{all_more, drawn_more, none_of_none, none_drawn, first_drawn, first_of_all, first_among, in_all}
 
@@ -83,59 +81,3 @@ module _ (m : Search) (g : List Formula) (c v w : ClaimView) (drawn : List ℕ) 
         joined = found.joined;
         alone = λ e. first_of_all m.protocol m.template g ps (length (drawn ++ n ∷ [])) f.body.cubes (subst (λ cs. IsFirstJoined m.protocol m.template g cs f.body.cubes) (alone_more count p e) first);
       }
-
--- ---- the other ends
-pub has_drawn : (c v w : ClaimView) (drawn : List ℕ) → Runs c v drawn → MeetsEnd (looked v) w → HasDrawn c w drawn
-has_drawn c v w drawn r h = elim (cases_lt 0 v.ends) [
-  | inl some ↦
-      let is : w ≡ looked v = h.earlier some in
-      record {
-        gained = ap (λ (x : ClaimView). x.drawn) is ∙ r.drawn_is;
-        ended = omega (arith, ap (λ (x : ClaimView). x.ends) is);
-        wrote = ap (λ (x : ClaimView). x.wrote) is ∙ r.wrote_is;
-        parts = ap (λ (x : ClaimView). x.parts) is ∙ r.parts_is;
-      }
-  | inr none ↦
-      let is = h.now (omega arith) in
-      record {
-        gained = ap (λ (x : ClaimView). x.drawn) is ∙ r.drawn_is;
-        ended = omega (arith, ap (λ (x : ClaimView). x.ends) is);
-        wrote = ap (λ (x : ClaimView). x.wrote) is ∙ r.wrote_is;
-        parts = ap (λ (x : ClaimView). x.parts) is ∙ r.parts_is;
-      }
-]
-
-pub has_stopped : (c v w : ClaimView) (drawn : List ℕ) (reason : ℕ) → Runs c v drawn → SeesReason (looked v) reason w → HasStopped c w reason
-has_stopped c v w drawn reason r h = record {
-  some = h.reason;
-  seen = ap (λ (x : ClaimView). x.seen) h.seen;
-  wrote = ap (λ (x : ClaimView). x.wrote) h.seen ∙ r.wrote_is;
-}
-
--- alone, no reason stands
-pub none_stops : (c v w : ClaimView) (drawn : List ℕ) (reason parts : ℕ) → Runs c v drawn → SeesReason (looked v) reason w → c ≡ opened parts 0 → ⊥
-none_stops c v w drawn reason parts r h e =
-    let found : reason ≡ v.wrote = h.found.alone (alone_still c v drawn parts r e) in
-    let zero_is : c.wrote ≡ 0 = ap (λ (x : ClaimView). x.wrote) e in
-    absurd (omega (arith, found, r.wrote_is, zero_is, h.reason))
-
--- ---- the claims are stopped
-pub stop_seen : (d e : ClaimView) (reason r : ℕ) → 1 ≤ reason → Stops d reason r e → 1 ≤ e.seen
-stop_seen d e reason r some (inl w) = omega (arith, ap (λ (x : ClaimView). x.seen) w.written)
-stop_seen d e reason r some (inr s) = omega (arith, ap (λ (x : ClaimView). x.seen) s.seen, s.reason)
-
-stop_drawn : (d e : ClaimView) (reason r : ℕ) → Stops d reason r e → e.drawn ≡ d.drawn
-stop_drawn d e reason r (inl w) = ap (λ (x : ClaimView). x.drawn) w.written
-stop_drawn d e reason r (inr s) = ap (λ (x : ClaimView). x.drawn) s.seen
-
-pub has_found : (m : Search) (g : List Formula) (budget : Option ℕ) (c d e : ClaimView) (f : Found) (reason r : ℕ) → 1 ≤ reason → Meets m g budget c d f → Stops d reason r e → HasFound m g budget c e f.body f.start f.steps
-has_found m g budget c d e f reason r some x s = record {
-  drawn = x.drawn;
-  last = x.last;
-  gained = stop_drawn d e reason r s ∙ x.gained;
-  seen = stop_seen d e reason r some s;
-  class = x.class;
-  first = x.first;
-  among = x.among;
-  joined = x.joined;
-}

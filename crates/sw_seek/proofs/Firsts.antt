@@ -27,7 +27,7 @@ use Rattle.sw_seek.specs.Steps.{IsFound}
 abbrev L : Type 0
 L = List (List ℕ)
 
-abbrev pub cubes_in : Option Class → Option (List ℕ)
+abbrev cubes_in : Option Class → Option (List ℕ)
 cubes_in o = option_map (λ b. b.cubes) o
 
 -- ---- places
@@ -36,11 +36,18 @@ take_one [] i x e = absurd (none-some x e)
 take_one (y ∷ xs) zero x e = ap (λ z. z ∷ []) (same_Some y x e)
 take_one (y ∷ xs) (suc i) x e = let d : suc i + 1 ≡ suc (i + 1) = omega arith in ap (λ n. take n (y ∷ xs)) d ∙ ap (λ zs. y ∷ zs) (take_one xs i x e)
 
-pub none_past : {X : Type 0} (xs : List X) (i : ℕ) → slice_get xs i ≡ None → length xs ≤ i
+none_past : {X : Type 0} (xs : List X) (i : ℕ) → slice_get xs i ≡ None → length xs ≤ i
 none_past xs i e = elim (cases_lt i (length xs)) [
   | inl below ↦ let x = get_some xs i below in absurd (none-some x.0 (sym e ∙ x.1))
   | inr past ↦ past
 ]
+
+-- what a walk is at
+pub past_end : (o : Option Class) (part : L) (i : ℕ) → cubes_in o ≡ slice_get part i → o ≡ None → length part ≤ i
+past_end o part i at e = none_past part i (sym at ∙ ap cubes_in e)
+
+pub class_at : (o : Option Class) (b : Class) (part : L) (i : ℕ) → cubes_in o ≡ slice_get part i → o ≡ Some b → slice_get part i ≡ Some b.cubes
+class_at o b part i at e = sym at ∙ ap cubes_in e
 
 pub part_found : (ps : List L) (n : ℕ) → n < length ps → slice_get ps n ≡ Some (part_at ps n)
 part_found ps n h = let x = get_some ps n h in x.1 ∙ ap Some (sym (ap (λ o. unwrap_or o []) x.1))

@@ -1,5 +1,5 @@
 -- What a worker has in hand between two steps, and what each of its steps comes to.
-use Rattle.std.specs.Prelude.{◌≡◌, ℕ, ◌≤◌, List, [], ◌∷◌, ◌++◌, length, map, Option, Some, None, Contains}
+use Rattle.std.specs.Prelude.{◌≡◌, ℕ, List, [], ◌∷◌, ◌++◌, length, map, Option, Some, None, Contains}
 use Rattle.std.specs.List.{AllByRecursion, flat_map}
 use Rattle.sw_logic.specs.declared.syntax.Formula.{Formula}
 use Rattle.sw_meaning.specs.declared.template.Template.{Template}
@@ -8,14 +8,13 @@ use Rattle.sw_filter.specs.declared.filter.Mode.TheVariants.{Finish}
 use Rattle.sw_join.specs.Joining.{IsJoined}
 use Rattle.sw_claims.specs.declared.rule.ClaimView.{ClaimView}
 use Rattle.sw_claims.specs.ClaimsRule.{opened}
-use Rattle.sw_pool.specs.declared.pool.Pool.{Pool}
 use Rattle.sw_core.specs.declared.record.Kept.{Kept}
 use Rattle.sw_core.specs.declared.record.Settled.{Settled}
 use Rattle.sw_core.specs.Machine.{Search, formula_in, parts_in}
 use Rattle.sw_core.specs.Gathered.{IsSettledBy, IsTimely, filters_of}
 use Rattle.sw_walk.specs.Parts.{part_at, all_classes, IsClass}
 use Rattle.sw_hand.specs.declared.hand.Hand.{Hand}
-use Rattle.sw_hand.specs.Hands.{search_of, IsView, IsHand, AreTokens, Grows, IsGoodBy, IsHanded}
+use Rattle.sw_hand.specs.Hands.{search_of, IsView, IsHand, AreTokens, Grows, IsGoodBy}
 use Rattle.sw_hand.specs.Seats.{HasDrawn, HasStopped}
 use Rattle.sw_seek.specs.declared.considering.Found.{Found}
 use Rattle.sw_seek.specs.declared.considering.Seeking.{Seeking}
@@ -23,8 +22,6 @@ use Rattle.sw_seek.specs.declared.drawing.Drew.{Drew}
 use Rattle.sw_seek.specs.declared.drawing.Drew.TheVariants.{All}
 use Rattle.sw_seek.specs.declared.drawing.Drew.TheVariants as drew
 use Rattle.sw_seek.specs.declared.drawing.Progress.{Progress}
-use Rattle.sw_seek.specs.declared.seeking.Sought.{Sought}
-use Rattle.sw_seek.specs.declared.seeking.Sought.TheVariants as sought
 use Rattle.sw_seek.specs.Seeking.{CanFinish, NoneJoins, IsFirstJoined}
 
 -- what is searched
@@ -108,9 +105,3 @@ abbrev pub IsDrew : Search → ℕ → List Formula → Option ℕ → ClaimView
 IsDrew m worker g budget c d kept p (drew.Found found) = Meets m g budget c d found
 IsDrew m worker g budget c d kept p All = HasDrawn c d p.drawn × HasSettled m worker g kept p
 IsDrew m worker g budget c d kept p (drew.Stopped reason) = HasStopped c d reason × (c ≡ opened (length (parts_in m)) 0 → ⊥)
-
--- what a worker answers, before the claims are stopped
-abbrev pub IsAnswer : Search → Pool → ℕ → List Formula → Option ℕ → ClaimView → ClaimView → Sought → Type 0
-IsAnswer m pool worker g budget c d (sought.Joins body r rs) = Meets m g budget c d (record { body = body; start = r; steps = rs })
-IsAnswer m pool worker g budget c d (sought.Done h) = HasDrawn c d h.drawn × IsHanded m pool worker 0 (length g) g h
-IsAnswer m pool worker g budget c d (sought.Stopped reason) = HasStopped c d reason × (c ≡ opened (length (parts_in m)) 0 → ⊥)

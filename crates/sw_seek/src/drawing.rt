@@ -1,5 +1,6 @@
 //! The draws of one worker, and what they come to.
-ghost use Rattle.std.specs.Prelude.{◌≡◌, ◌<◌, [], length, IfOk, IfErr};
+ghost use Rattle.std.specs.Prelude.{◌≡◌, ◌<◌, [], map, length, IfOk, IfErr};
+ghost use Rattle.sw_filter.specs.declared.view.Shown.{Shown as Entry};
 
 use crate::considering::{Found, Seeking};
 use crate::errors::FinishError;
@@ -29,7 +30,9 @@ pub enum Drew {
 }
 
 /// Which of the filters the worker published itself.
-fn own_marks(alloc: Global, shown: &[Shown]) -> Result<Items<bool>, AllocError> {
+fn own_marks(alloc: Global, shown: &[Shown]) -> Result<Items<bool>, AllocError>
+    ensures { IfOk result (λ own. own ≡ map (λ (e : Entry). e.own) shown.now) }
+{
     let mut own = Items::new(alloc);
     for each in shown {
         own.push(each.own)?;
@@ -116,6 +119,7 @@ impl<'a, B: Candidates + Walk> Seeking<'_, 'a, B> {
         requires holds { Holds B.template self.now hand }
         requires settled { HasSettled (searched B.template self.now) self.now.task.now.worker self.now.entries.now hand.kept progress }
         ensures drawn { IfOk result (λ handed. handed.drawn ≡ progress.drawn) }
+        ensures own { IfOk result (λ handed. handed.own ≡ map (λ (e : Entry). e.own) hand.entry.mine.shown.items) }
         ensures handed { IfOk result (IsHanded (searched B.template self.now) self.now.task.now.pool.now self.now.task.now.worker 0 (length self.now.entries.now) self.now.entries.now) }
     {
         let own = own_marks(alloc, hand.mine.shown.as_slice())?;

@@ -1,8 +1,8 @@
 //! The finisher: what one worker does that looks for a class that joins.
 #![tactic(auto)]
 
-pub mod considering;
-pub mod drawing;
+mod considering;
+mod drawing;
 pub mod errors;
 mod passing;
 pub mod seeking;

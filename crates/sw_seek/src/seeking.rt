@@ -33,9 +33,9 @@ pub enum Sought {
 }
 
 impl<'a, B: Candidates + Walk> Seeking<'_, 'a, B> {
-    ghost use Rattle.sw_seek.specs.Steps.{CanSeek, IsAnswer, searched};
+    ghost use Rattle.sw_seek.specs.Steps.{CanSeek, searched};
 
-    /// What the worker finds, before it stops the claims.
+    /// What the worker finds; before a class that joins is answered, the claims are stopped.
     fn search<H: Wait, G: Gate>(
         &self,
         rt: &H,
@@ -48,7 +48,7 @@ impl<'a, B: Candidates + Walk> Seeking<'_, 'a, B> {
         requires claims { seat.old.object ≡ claims.now }
         requires parts { seat.old.view.parts ≡ length (B.part_lists self.now.task.now.space.now) }
         ensures claims { seat.new.object ≡ seat.old.object }
-        ensures answer { IfOk result (IsAnswer (searched B.template self.now) self.now.task.now.pool.now self.now.task.now.worker self.now.entries.now self.now.budget seat.old.view seat.new.view) }
+        ensures sought { IfOk result (IsSought (searched B.template self.now) self.now.task.now.pool.now self.now.task.now.worker self.now.entries.now self.now.budget seat.old.view seat.new.view) }
         ensures cause { IfErr result (IsCause (searched B.template self.now) self.now.entries.now self.now.budget) }
     {
         let mut hand = self.begin(alloc)?;
@@ -57,7 +57,10 @@ impl<'a, B: Candidates + Walk> Seeking<'_, 'a, B> {
             settled: Items::new(alloc),
         };
         match self.draw(rt, alloc, claims, seat, gate, &mut hand, &mut progress)? {
-            Drew::Found(Found { body, start, steps }) => Ok(Sought::Joins { body, start, steps }),
+            Drew::Found(Found { body, start, steps }) => {
+                claims.stop(seat, u64::from(self.task.worker) + 1);
+                Ok(Sought::Joins { body, start, steps })
+            }
             Drew::All => Ok(Sought::Done(self.hand_over(alloc, hand, progress)?)),
             Drew::Stopped(reason) => Ok(Sought::Stopped(reason)),
         }
@@ -92,16 +95,9 @@ pub fn seek<'a, H: Wait, G: Gate, B: Candidates + Walk>(
         entries,
         budget,
     };
-    let reason = task.worker as u64 + 1;
-    match seeking.search(rt, alloc, claims, claim_seat, gate) {
-        Ok(Sought::Joins { body, start, steps }) => {
-            claims.stop(claim_seat, reason);
-            Ok(Sought::Joins { body, start, steps })
-        }
-        Ok(other) => Ok(other),
-        Err(error) => {
-            claims.stop(claim_seat, reason);
-            Err(error)
-        }
+    let sought = seeking.search(rt, alloc, claims, claim_seat, gate);
+    if sought.is_err() {
+        claims.stop(claim_seat, u64::from(task.worker) + 1);
     }
+    sought
 }

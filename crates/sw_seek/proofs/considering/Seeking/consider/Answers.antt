@@ -1,4 +1,3 @@
-use Rattle.std.proofs.Common.{rules}
 use Rattle.sw_template.specs.Bodies.{Class}
 use Rattle.sw_seek.specs.Steps.{searched}
 use Rattle.sw_seek.proofs.Standing.{considered_after}

@@ -1,8 +1,6 @@
-use Rattle.std.proofs.Common.{sym, subst}
+use Rattle.std.proofs.Common.{subst}
 use Rattle.sw_template.specs.Bodies.{Class}
-use Rattle.sw_join.specs.Joining.{IsExamined, IsJoined}
-use Rattle.sw_core.specs.Machine.{formula_in}
-use Rattle.sw_seek.specs.Steps.{searched}
+use Rattle.sw_join.specs.Joining.{IsExamined}
 use Rattle.sw_seek.proofs.Standing.{has_it, can_ask, rejects, joined_at}
 use Rattle.sw_seek.proofs.considering.Seeking.examined.Goals as goal
 
