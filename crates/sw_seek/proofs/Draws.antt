@@ -1,8 +1,7 @@
 -- What the draws of a claim seat come to.
 use Rattle.std.specs.Prelude.{◌≡◌, ℕ, ◌+◌, ◌<◌, List, [], ◌∷◌, ◌++◌, length, take, Option, Contains}
 use Rattle.std.specs.List.{flat_map}
-use Rattle.std.proofs.Common.{refl, arith, sym, ap, ◌∙◌, subst, append_assoc, length-append}
-use Rattle.std.proofs.lemmas.List.{append-nil}
+use Rattle.std.proofs.Common.{arith, sym, ap, ◌∙◌, subst, append_assoc, length-append}
 use Rattle.sw_logic.specs.declared.syntax.Formula.{Formula}
 use Rattle.sw_claims.specs.declared.rule.ClaimView.{ClaimView}
 use Rattle.sw_claims.specs.ClaimsAnswers.{DrawsNumber}
@@ -13,7 +12,7 @@ use Rattle.sw_walk.specs.Parts.{part_at, all_classes}
 use Rattle.sw_seek.specs.declared.considering.Found.{Found}
 use Rattle.sw_seek.specs.Seeking.{NoneJoins, IsFirstJoined}
 use Rattle.sw_seek.specs.Steps.{IsFound, Meets}
-use Rattle.sw_seek.proofs.Firsts.{all_more, drawn_more, none_of_none, none_drawn, first_drawn, first_of_all, first_among, in_all}
+use Rattle.sw_seek.proofs.Firsts.{all_more, drawn_more, none_drawn, first_drawn, first_of_all, first_among, in_all}
 
 -- the seat has drawn these, and no reason was written
 pub record Runs (c d : ClaimView) (drawn : List ℕ) : Type 0 where
@@ -22,9 +21,6 @@ pub record Runs (c d : ClaimView) (drawn : List ℕ) : Type 0 where
   pub parts_is : d.parts ≡ c.parts
   pub first_is : d.first ≡ c.first
   pub out_is : d.out ≡ c.out
-
-pub runs_none : (c : ClaimView) → Runs c c []
-runs_none c = record { drawn_is = sym (append-nil c.drawn); wrote_is = refl; parts_is = refl; first_is = refl; out_is = refl }
 
 pub runs_more : (c v w : ClaimView) (drawn : List ℕ) (n : ℕ) → Runs c v drawn → DrawsNumber (looked v) n w → Runs c w (drawn ++ n ∷ [])
 runs_more c v w drawn n r h = record {
@@ -43,14 +39,12 @@ pub record Passed (m : Search) (g : List Formula) (c : ClaimView) (drawn : List 
   pub none : NoneJoins m.protocol m.template g (flat_map (part_at (parts_in m)) drawn)
   pub alone : c ≡ opened (length (parts_in m)) 0 → flat_map (part_at (parts_in m)) drawn ≡ all_classes (take (length drawn) (parts_in m))
 
-pub passed_none : (m : Search) (g : List Formula) (c : ClaimView) → Passed m g c []
-passed_none m g c = record { none = none_of_none m.protocol m.template g; alone = λ e. refl }
-
 module _ (m : Search) (g : List Formula) (c v w : ClaimView) (drawn : List ℕ) (n : ℕ) (r : Runs c v drawn) (h : DrawsNumber (looked v) n w) where
   pub below_parts : c.parts ≡ length (parts_in m) → n < length (parts_in m)
   below_parts e = omega (arith, h.below, r.parts_is, e)
 
-  alone_more : c.parts ≡ length (parts_in m) → Passed m g c drawn → c ≡ opened (length (parts_in m)) 0 → flat_map (part_at (parts_in m)) (drawn ++ n ∷ []) ≡ all_classes (take (length (drawn ++ n ∷ [])) (parts_in m))
+  alone_more : c.parts ≡ length (parts_in m) → Passed m g c drawn → c ≡ opened (length (parts_in m)) 0
+      → flat_map (part_at (parts_in m)) (drawn ++ n ∷ []) ≡ all_classes (take (length (drawn ++ n ∷ [])) (parts_in m))
   alone_more count p e =
       let ps = parts_in m in
       let all : v.drawn ≡ drawn = r.drawn_is ∙ ap (λ (x : ClaimView). x.drawn ++ drawn) e in
@@ -59,18 +53,21 @@ module _ (m : Search) (g : List Formula) (c v w : ClaimView) (drawn : List ℕ) 
       drawn_more ps drawn n ∙ (ap (λ cs. cs ++ part_at ps n) (p.alone e ∙ ap (λ k. all_classes (take k ps)) (sym next))
       ∙ (sym (all_more ps n (below_parts count)) ∙ ap (λ k. all_classes (take k ps)) (sym size)))
 
-  pub passed_more : c.parts ≡ length (parts_in m) → Passed m g c drawn → NoneJoins m.protocol m.template g (part_at (parts_in m) n) → Passed m g c (drawn ++ n ∷ [])
+  pub passed_more : c.parts ≡ length (parts_in m) → Passed m g c drawn → NoneJoins m.protocol m.template g (part_at (parts_in m) n)
+      → Passed m g c (drawn ++ n ∷ [])
   passed_more count p none = record {
     none = none_drawn m.protocol m.template g (parts_in m) drawn n p.none none;
     alone = alone_more count p;
   }
 
   -- a class that joins in the part that was drawn
-  pub meets : (budget : Option ℕ) (f : Found) → c.parts ≡ length (parts_in m) → Passed m g c drawn → IsFound m g budget (part_at (parts_in m) n) f → Meets m g budget c w f
+  pub meets : (budget : Option ℕ) (f : Found) → c.parts ≡ length (parts_in m) → Passed m g c drawn → IsFound m g budget (part_at (parts_in m) n) f
+      → Meets m g budget c w f
   meets budget f count p found =
       let ps = parts_in m in
       let among : Contains (part_at ps n) f.body.cubes = first_among m.protocol m.template g (part_at ps n) f.body.cubes found.first in
-      let first : IsFirstJoined m.protocol m.template g (flat_map (part_at ps) (drawn ++ n ∷ [])) f.body.cubes = first_drawn m.protocol m.template g ps drawn n f.body.cubes p.none found.first in
+      let first : IsFirstJoined m.protocol m.template g (flat_map (part_at ps) (drawn ++ n ∷ [])) f.body.cubes = first_drawn m.protocol m.template g ps
+      drawn n f.body.cubes p.none found.first in
       record {
         drawn = drawn;
         last = n;
@@ -79,5 +76,6 @@ module _ (m : Search) (g : List Formula) (c v w : ClaimView) (drawn : List ℕ) 
         first = first;
         among = among;
         joined = found.joined;
-        alone = λ e. first_of_all m.protocol m.template g ps (length (drawn ++ n ∷ [])) f.body.cubes (subst (λ cs. IsFirstJoined m.protocol m.template g cs f.body.cubes) (alone_more count p e) first);
+        alone = λ e. first_of_all m.protocol m.template g ps (length (drawn ++ n ∷ [])) f.body.cubes
+            (subst (λ cs. IsFirstJoined m.protocol m.template g cs f.body.cubes) (alone_more count p e) first);
       }

@@ -85,7 +85,8 @@ module _ (p : Protocol) (t : Template) (g : List Formula) where
     | inr there ↦ b c there j
   ]
 
-  pub none_drawn : (ps : List L) (drawn : List ℕ) (n : ℕ) → NoneJoins p t g (flat_map (part_at ps) drawn) → NoneJoins p t g (part_at ps n) → NoneJoins p t g (flat_map (part_at ps) (drawn ++ n ∷ []))
+  pub none_drawn : (ps : List L) (drawn : List ℕ) (n : ℕ) → NoneJoins p t g (flat_map (part_at ps) drawn) → NoneJoins p t g (part_at ps n)
+      → NoneJoins p t g (flat_map (part_at ps) (drawn ++ n ∷ []))
   none_drawn ps drawn n a b = subst (NoneJoins p t g) (sym (drawn_more ps drawn n)) (none_both (flat_map (part_at ps) drawn) (part_at ps n) a b)
 
   -- ---- the first of them
@@ -97,7 +98,8 @@ module _ (p : Protocol) (t : Template) (g : List Formula) where
   first_within xs ys zs c none f = record {
     before = xs ++ f.before;
     after = f.after ++ zs;
-    at = ap (λ ws. xs ++ (ws ++ zs)) f.at ∙ (ap (λ ws. xs ++ ws) (append_assoc f.before (c ∷ f.after) zs) ∙ sym (append_assoc xs f.before (c ∷ (f.after ++ zs))));
+    at = ap (λ ws. xs ++ (ws ++ zs)) f.at ∙ (ap (λ ws. xs ++ ws) (append_assoc f.before (c ∷ f.after) zs) ∙ sym
+        (append_assoc xs f.before (c ∷ (f.after ++ zs))));
     none = none_both xs f.before none f.none;
     joins = f.joins;
   }
@@ -108,13 +110,16 @@ module _ (p : Protocol) (t : Template) (g : List Formula) where
   first_behind : (xs ys : L) (c : List ℕ) → NoneJoins p t g xs → IsFirstJoined p t g ys c → IsFirstJoined p t g (xs ++ ys) c
   first_behind xs ys c none f = subst (λ ws. IsFirstJoined p t g (xs ++ ws) c) (append-nil ys) (first_within xs ys [] c none f)
 
-  first_at : (part : L) (i : ℕ) (c : List ℕ) → slice_get part i ≡ Some c → NoneJoins p t g (take i part) → Joins p g (formula_of p.signature t c) → IsFirstJoined p t g part c
-  first_at part i c e none j = subst (λ cs. IsFirstJoined p t g cs c) (sym (part_split part i c e)) (first_within (take i part) (c ∷ []) (drop (suc i) part) c none (first_one c j))
+  first_at : (part : L) (i : ℕ) (c : List ℕ) → slice_get part i ≡ Some c → NoneJoins p t g (take i part) → Joins p g (formula_of p.signature t c)
+      → IsFirstJoined p t g part c
+  first_at part i c e none j = subst (λ cs. IsFirstJoined p t g cs c) (sym (part_split part i c e))
+      (first_within (take i part) (c ∷ []) (drop (suc i) part) c none (first_one c j))
 
   -- the first in the parts drawn, where none of the parts before has one
   pub first_drawn : (ps : List L) (drawn : List ℕ) (n : ℕ) (c : List ℕ) → NoneJoins p t g (flat_map (part_at ps) drawn) → IsFirstJoined p t g (part_at ps n) c
       → IsFirstJoined p t g (flat_map (part_at ps) (drawn ++ n ∷ [])) c
-  first_drawn ps drawn n c none f = subst (λ cs. IsFirstJoined p t g cs c) (sym (drawn_more ps drawn n)) (first_behind (flat_map (part_at ps) drawn) (part_at ps n) c none f)
+  first_drawn ps drawn n c none f = subst (λ cs. IsFirstJoined p t g cs c) (sym (drawn_more ps drawn n))
+      (first_behind (flat_map (part_at ps) drawn) (part_at ps n) c none f)
 
   -- the first in the front parts is the first of all
   pub first_of_all : (ps : List L) (n : ℕ) (c : List ℕ) → IsFirstJoined p t g (all_classes (take n ps)) c → IsFirstJoined p t g (all_classes ps) c
@@ -128,7 +133,8 @@ first_among p t g cs c f = subst (λ xs. Contains xs c) (sym f.at) (among_at f.b
     among_at xs x ys = get_contains (xs ++ x ∷ ys) (length xs) x (get_append_at xs x ys)
 
 -- a class at a place joins, and none before it
-pub found_at : (m : Search) (g : List Formula) (budget : Option ℕ) (part : L) (i : ℕ) (b : Class) (f : Found) → slice_get part i ≡ Some b.cubes → NoneJoins m.protocol m.template g (take i part)
+pub found_at : (m : Search) (g : List Formula) (budget : Option ℕ) (part : L) (i : ℕ) (b : Class) (f : Found) → slice_get part i ≡ Some b.cubes
+    → NoneJoins m.protocol m.template g (take i part)
     → b.template ≡ 0 → f.body ≡ b → IsJoined m.protocol g (formula_in m b.cubes) budget f.start f.steps → IsFound m g budget part f
 found_at m g budget part i b f at none single e j = record {
   single = subst (λ (x : Class). x.template ≡ 0) (sym e) single;

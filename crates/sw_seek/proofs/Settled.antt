@@ -37,20 +37,23 @@ from_none (k ∷ ks) = let z : 0 + k ≡ k = omega arith in ap (λ j. j ∷ map 
 
 module _ (m : Search) (pool : Pool) (worker : ℕ) (g : List Formula) (shown : List Shown) (tokens : List Seen) where
   -- a part whose classes are good by the filters used is settled by them
-  pub settled_now : (kept : List Kept) (used : List Bool) (x : Settled) → IsHand m pool worker g shown kept tokens used → AllByRecursion (IsGoodBy m g kept used) (part_at (parts_in m) x.part)
+  pub settled_now : (kept : List Kept) (used : List Bool) (x : Settled) → IsHand m pool worker g shown kept tokens used
+      → AllByRecursion (IsGoodBy m g kept used) (part_at (parts_in m) x.part)
       → x.worker ≡ worker → x.under ≡ length g → x.by ≡ map (λ k. 0 + k) (used_from 0 used) → IsPromised m worker g kept x
   settled_now kept used x h good mine under by =
       let whole : take x.under g ≡ g = take_all x.under g (omega (arith, under)) in
       let places : x.by ≡ used_from 0 used = by ∙ from_none (used_from 0 used) in
       let size : length (filters_of kept) ≡ length kept = length-map kept (λ (k : Kept). k.filter) in
-      let below : AreBelow (length (filters_of kept)) x.by = subst (AreBelow (length (filters_of kept))) (sym places) (used_below 0 (length (filters_of kept)) used (omega (arith, h.marks))) in
+      let below : AreBelow (length (filters_of kept)) x.by = subst (AreBelow (length (filters_of kept))) (sym places)
+      (used_below 0 (length (filters_of kept)) used (omega (arith, h.marks))) in
       let same : filters_at (filters_of kept) x.by ≡ used_filters kept used = ap (filters_at (filters_of kept)) places in
       record {
         settled = record {
           by_worker = mine;
           under = omega (arith, under);
           places = below;
-          good = subst (λ l. AllByRecursion (λ class. Good m.protocol m.mode l (formula_in m class) (filters_at (filters_of kept) x.by)) (part_at (parts_in m) x.part)) (sym whole)
+          good = subst (λ l. AllByRecursion (λ class. Good m.protocol m.mode l (formula_in m class) (filters_at (filters_of kept) x.by))
+              (part_at (parts_in m) x.part)) (sym whole)
               (subst (λ fs. AllByRecursion (λ class. Good m.protocol m.mode g (formula_in m class) fs) (part_at (parts_in m) x.part)) (sym same) good);
         };
         timely = record {
@@ -68,7 +71,8 @@ module _ (m : Search) (worker : ℕ) (g : List Formula) where
     by_worker = h.by_worker;
     under = h.under;
     places = below-weaker (length fs) (length (fs ++ more)) x.by (omega (arith, length-append fs more)) h.places;
-    good = subst (λ l. AllByRecursion (λ class. Good m.protocol m.mode (take x.under g) (formula_in m class) l) (part_at (parts_in m) x.part)) (sym (filters_at-append fs more x.by h.places)) h.good;
+    good = subst (λ l. AllByRecursion (λ class. Good m.protocol m.mode (take x.under g) (formula_in m class) l) (part_at (parts_in m) x.part))
+        (sym (filters_at-append fs more x.by h.places)) h.good;
   }
 
   timely_more : (fs more : List Filter) (x : Settled) → IsTimely m (length g) g fs x → IsTimely m (length g) g (fs ++ more) x
@@ -86,7 +90,8 @@ module _ (m : Search) (worker : ℕ) (g : List Formula) where
         timely = subst (λ fs. IsTimely m (length g) g fs x) (sym both) (timely_more (filters_of kept) (filters_of more) x h.timely);
       }
 
-  pub promised_on : (old new : List Kept) (xs : List Settled) → KeepsMore old new → AllByRecursion (IsPromised m worker g old) xs → AllByRecursion (IsPromised m worker g new) xs
+  pub promised_on : (old new : List Kept) (xs : List Settled) → KeepsMore old new → AllByRecursion (IsPromised m worker g old) xs
+      → AllByRecursion (IsPromised m worker g new) xs
   promised_on old new xs k h = subst (λ kept. AllByRecursion (IsPromised m worker g kept) xs) (sym k.1)
       (each-weaker (IsPromised m worker g old) (IsPromised m worker g (old ++ k.0)) (promised_more old k.0) xs h)
 
@@ -98,7 +103,8 @@ empty_is (x ∷ xs) e = absurd (omega arith)
 abbrev ShowsKept : Pool → Seen → Kept → Type 0
 ShowsKept pool token k = IsShown pool token × (filter_of token ≡ k.filter)
 
-tokens_kept : (pool : Pool) (tokens : List Seen) (shown : List Shown) (kept : List Kept) → filters_of kept ≡ map (λ (e : Shown). e.filter.now) shown → AreTokens pool tokens shown → AllZip (ShowsKept pool) tokens kept
+tokens_kept : (pool : Pool) (tokens : List Seen) (shown : List Shown) (kept : List Kept) → filters_of kept ≡ map (λ (e : Shown). e.filter.now) shown
+    → AreTokens pool tokens shown → AllZip (ShowsKept pool) tokens kept
 tokens_kept pool [] [] [] e z = tt
 tokens_kept pool [] [] (k ∷ ks) e z = absurd (omega (arith, ap length e))
 tokens_kept pool [] (s ∷ ss) ks e z = absurd z
@@ -115,7 +121,8 @@ module _ (m : Search) (pool : Pool) (worker : ℕ) (g : List Formula) where
       let settled = each-weaker (IsPromised m worker g h.kept) (IsSettledBy m worker g (filters_of h.kept)) (λ x p. p.settled) h.settled promised in
       let timely = each-weaker (IsPromised m worker g h.kept) (IsTimely m (length g) g (filters_of h.kept)) (λ x p. p.timely) h.settled promised in
       record {
-        share = λ filters e. subst (λ fs. IsShare m fs g worker (share_of h)) (empty_is filters e) (record { in_order = in_order; settled = settled; kept = hand.each; fresh = hand.fresh });
+        share = λ filters e. subst (λ fs. IsShare m fs g worker (share_of h)) (empty_is filters e)
+            (record { in_order = in_order; settled = settled; kept = hand.each; fresh = hand.fresh });
         timely = λ filters e. subst (λ fs. AllByRecursion (IsTimely m (length g) g (fs ++ filters_of h.kept)) h.settled) (empty_is filters e) timely;
         admitted = each-unmap (IsAdmitted m.protocol) (λ (k : Kept). k.filter) h.kept
             (subst (AllByRecursion (IsAdmitted m.protocol)) (sym hand.same) (each-map (IsAdmitted m.protocol) (λ (e : Shown). e.filter.now) shown admitted));
@@ -123,7 +130,8 @@ module _ (m : Search) (pool : Pool) (worker : ℕ) (g : List Formula) where
       }
 
 -- one part more is settled
-pub settled_next : (m : Search) (worker : ℕ) (g : List Formula) (part : ℕ) (kept kept_now : List Kept) (old new : Progress) → HasSettled m worker g kept old → IsSettledNow m worker g part kept kept_now old new → HasSettled m worker g kept_now new
+pub settled_next : (m : Search) (worker : ℕ) (g : List Formula) (part : ℕ) (kept kept_now : List Kept) (old new : Progress) → HasSettled m worker g kept old
+    → IsSettledNow m worker g part kept kept_now old new → HasSettled m worker g kept_now new
 settled_next m worker g part kept kept_now old new h x = record {
   in_order = ap (map (λ (y : Settled). y.part)) x.is_settled ∙ (map-append (λ (y : Settled). y.part) old.settled (x.by_this ∷ [])
       ∙ (ap (λ ks. ks ++ x.by_this.part ∷ []) h.in_order ∙ (ap (λ k. old.drawn ++ k ∷ []) x.named ∙ sym x.is_drawn)));

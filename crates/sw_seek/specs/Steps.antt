@@ -29,14 +29,17 @@ abbrev pub searched : {S : Type 0} → (S → Template) → Seeking S → Search
 searched template s = search_of s.task.now.protocol.now (template s.task.now.space.now) s.task.now.mode s.task.now.workers
 
 -- a task in the finisher's mode, whose classes can be asked about under the entries
-pub record CanSeek {S : Type 0} (template : S → Template) (lists : S → List (List (List ℕ))) (Has : S → Class → Type 0) (formula : S → Class → Formula) (s : Seeking S) : Type 0 where
+pub record CanSeek {S : Type 0} (template : S → Template) (lists : S → List (List (List ℕ))) (Has : S → Class → Type 0) (formula : S → Class → Formula)
+    (s : Seeking S) : Type 0 where
   pub finish : s.task.now.mode ≡ Finish
-  pub can : CanFinish s.task.now.protocol.now (template s.task.now.space.now) (lists s.task.now.space.now) (Has s.task.now.space.now) (formula s.task.now.space.now) s.entries.now s.budget
+  pub can : CanFinish s.task.now.protocol.now (template s.task.now.space.now) (lists s.task.now.space.now) (Has s.task.now.space.now)
+      (formula s.task.now.space.now) s.entries.now s.budget
 
 -- a worker's filters under the entries
 pub record Holds {S : Type 0} (template : S → Template) (s : Seeking S) (h : Hand S) : Type 0 where
   pub mine : IsView (searched template s) s.task.now.space.now s.entries.now h.mine.protocol.now h.mine.space.now h.mine.mode h.mine.advanced h.mine.shown.items
-  pub others : IsView (searched template s) s.task.now.space.now s.entries.now h.others.protocol.now h.others.space.now h.others.mode h.others.advanced h.others.shown.items
+  pub others : IsView (searched template s) s.task.now.space.now s.entries.now h.others.protocol.now h.others.space.now h.others.mode h.others.advanced
+      h.others.shown.items
   pub held : IsHand (searched template s) s.task.now.pool.now s.task.now.worker s.entries.now h.mine.shown.items h.kept h.tokens.items h.used.items
   pub finds : AreTokens s.task.now.pool.now h.found.items h.others.shown.items
 

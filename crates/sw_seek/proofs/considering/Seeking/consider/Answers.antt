@@ -10,4 +10,5 @@ pub returns-clause-considered : goal.returns-clause-considered
 returns-clause-considered g c =
     let s = c.args.self.now in
     let body : Class = c.args.body.now in
-    considered_after (searched g.B.Walk.template s) s.entries.now s.budget c.args.hand.now c.sift.new.hand c.examined.new.hand body c.examined.result c.in_ok-sift.ensures.grows c.examined.ensures.considered
+    considered_after (searched g.B.Walk.template s) s.entries.now s.budget c.args.hand.now c.sift.new.hand c.examined.new.hand body c.examined.result
+    c.in_ok-sift.ensures.grows c.examined.ensures.considered

@@ -18,7 +18,8 @@ returns-in-Some-2-clause-drew g c =
     let at = c.loop.invariant in
     let old = c.loop.progress in
     let count : first.parts ≡ length (parts_in m) = c.requires.parts ∙ ap length c.requires.can.can.are_parts in
-    let told = subst (IsTaken m s.task.now.worker entries s.budget n c.loop.hand.kept c.take.new.hand.kept old c.take.new.progress) c.in-Some-2.is c.in_ok-found-in-Number.ensures.taken in
+    let told = subst (IsTaken m s.task.now.worker entries s.budget n c.loop.hand.kept c.take.new.hand.kept old c.take.new.progress) c.in-Some-2.is
+    c.in_ok-found-in-Number.ensures.taken in
     meets m entries first before after old.drawn n at.runs c.in-Number.ensures.draws.1 s.budget c.in-Some-2.found count at.passes told.1
 
 pub loop-preserved : goal.loop-preserved

@@ -20,8 +20,11 @@ returns-in_default-clause-passed g c =
     let part = part_at ps c.args.part in
     let i = c.loop-at.at in
     let hand = c.loop-at.hand in
-    let past = past_end c.loop-at.next part i c.loop-at.invariant.next c.in_default.is in
-    (c.loop-at.invariant.kept, subst (AllByRecursion (IsGoodBy (searched g.B.Walk.template s) s.entries.now hand.kept hand.used.items)) (take_all i part past) c.loop-at.invariant.good)
+    let past = past_end c.loop-at.next part i c.loop-at.invariant.next c.in_default.is in (
+      c.loop-at.invariant.kept,
+      subst (AllByRecursion (IsGoodBy (searched g.B.Walk.template s) s.entries.now hand.kept hand.used.items))
+          (take_all i part past) c.loop-at.invariant.good,
+    )
 
 pub returns-clause-passed : goal.returns-clause-passed
 returns-clause-passed g c =
@@ -30,8 +33,11 @@ returns-clause-passed g c =
     let part = part_at ps c.args.part in
     let i = c.loop-at.at in
     let hand = c.loop-at.hand in
-    let few : length part ≤ 4294967296 = c.first_of-next.ensures.few in
-    (c.loop-at.invariant.kept, subst (AllByRecursion (IsGoodBy (searched g.B.Walk.template s) s.entries.now hand.kept hand.used.items)) (take_all i part (omega (arith, few))) c.loop-at.invariant.good)
+    let few : length part ≤ 4294967296 = c.first_of-next.ensures.few in (
+      c.loop-at.invariant.kept,
+      subst (AllByRecursion (IsGoodBy (searched g.B.Walk.template s) s.entries.now hand.kept hand.used.items))
+          (take_all i part (omega (arith, few))) c.loop-at.invariant.good,
+    )
 
 pub consider-requires-clause-class : goal.consider-requires-clause-class
 consider-requires-clause-class g c =
@@ -40,12 +46,17 @@ consider-requires-clause-class g c =
     let i = c.loop-at.at in
     let class = c.in-Some.body.cubes in
     let at = class_at c.loop-at.next c.in-Some.body part i c.loop-at.invariant.next c.in-Some.is in
-    record { single = subst (λ (o : Option Class). IfSome o (λ b. b.template ≡ 0)) c.in-Some.is c.loop-at.invariant.single; among = in_all ps c.args.part class c.requires.part (get_contains part i class at) }
+    record {
+      single = subst (λ (o : Option Class). IfSome o (λ b. b.template ≡ 0)) c.in-Some.is c.loop-at.invariant.single;
+      among = in_all ps c.args.part
+          class c.requires.part (get_contains part i class at);
+    }
 
 pub returns-in_err-found-clause-cause : goal.returns-in_err-found-clause-cause
 returns-in_err-found-clause-cause g c =
     let s = c.args.self.now in
-    passed (IsCause (searched g.B.Walk.template s) s.entries.now s.budget) c.in_err-found.field-0.0 c.from_residual.result c.from_residual.ensures.1 c.in_err-found.ensures.cause
+    passed (IsCause (searched g.B.Walk.template s) s.entries.now s.budget) c.in_err-found.field-0.0 c.from_residual.result c.from_residual.ensures.1
+    c.in_err-found.ensures.cause
 
 pub next_of-next-requires-clause-is : goal.next_of-next-requires-clause-is
 next_of-next-requires-clause-is g c =
@@ -74,9 +85,11 @@ loop-at-preserved g c =
       next = c.next_of-next.ensures.cubes i at;
       single = c.next_of-next.ensures.template;
       holds = c.in_ok-found.ensures.holds;
-      kept = keeps_on c.args.hand.now.kept before.kept after.kept c.loop-at.invariant.kept (keeps_grown before.kept after.kept before.used.items after.used.items told.0);
+      kept = keeps_on c.args.hand.now.kept before.kept after.kept c.loop-at.invariant.kept
+          (keeps_grown before.kept after.kept before.used.items after.used.items told.0);
       good = subst (AllByRecursion (IsGoodBy m entries after.kept after.used.items)) (sym (take_one part i class at))
-          (each-push (IsGoodBy m entries after.kept after.used.items) (take i part) class (goods_grow m entries before.kept after.kept before.used.items after.used.items (take i part) told.0 c.loop-at.invariant.good) told.1);
+          (each-push (IsGoodBy m entries after.kept after.used.items) (take i part) class (goods_grow m entries before.kept after.kept before.used.items
+          after.used.items (take i part) told.0 c.loop-at.invariant.good) told.1);
     }
 
 pub returns-in-Some-2-clause-passed : goal.returns-in-Some-2-clause-passed

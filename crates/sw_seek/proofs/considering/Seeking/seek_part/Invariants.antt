@@ -11,5 +11,6 @@ invariant-loop-at g l = record {
   single : IfSome l.next (λ b. b.template ≡ 0);
   holds : Holds g.B.Walk.template l.self l.hand;
   kept : KeepsMore l.initial.hand.kept l.hand.kept;
-  good : AllByRecursion (IsGoodBy (searched g.B.Walk.template l.self) l.self.entries.now l.hand.kept l.hand.used.items) (take l.at (part_at (g.B.Walk.part_lists l.self.task.now.space.now) l.part));
+  good : AllByRecursion (IsGoodBy (searched g.B.Walk.template l.self) l.self.entries.now l.hand.kept l.hand.used.items)
+      (take l.at (part_at (g.B.Walk.part_lists l.self.task.now.space.now) l.part));
 }
