@@ -1,5 +1,5 @@
 //! The workers that look for a class that joins: one that looks alone, or several side by side.
-ghost use Rattle.std.specs.Prelude.{◌≡◌, ◌≤◌, All, IfOk, length, vec_len};
+ghost use Rattle.std.specs.Prelude.{◌≡◌, All, IfOk, length, vec_len};
 ghost use Rattle.sw_claims.specs.ClaimsRule.{opened};
 ghost use Rattle.sw_claims.specs.Sharing.{IsFresh};
 ghost use Rattle.sw_core.specs.Machine.{parts_in};
@@ -24,6 +24,26 @@ pub(crate) struct Finder<'a, 'b, G, B> {
     pub(crate) entries: &'b [Formula],
     pub(crate) budget: Option<u64>,
     pub(crate) gate: &'b G,
+}
+
+/// A seat for each split that the first one has left.
+fn split_all(
+    alloc: Global,
+    claims: &Claims,
+    first: &mut ClaimSeat,
+) -> Result<Vec<ClaimSeat>, AllocError>
+    requires object { first.old.object ≡ claims.now }
+    requires new { first.old.view ≡ opened first.old.view.parts first.old.view.splits }
+    ensures len { IfOk result (λ seats. vec_len seats ≡ first.old.view.splits) }
+    ensures fresh { IfOk result (λ seats. All (IsFresh claims.now first.old.view.parts) seats.items) }
+    ensures first { IfOk result (λ seats. IsFirst claims.now first.old.view.parts (vec_len seats) first.new) }
+    ensures unused { IfOk result (λ _. IsUnused first.new.view) }
+{
+    let mut seats = Vec::new(alloc);
+    while let Some(seat) = claims.split(first) {
+        seats.push(seat)?;
+    }
+    Ok(seats)
 }
 
 impl<'a, 'b, G: Gate + Sync, B: Candidates + Walk + Sync> Finder<'a, 'b, G, B> {
@@ -85,27 +105,6 @@ impl<'a, 'b, G: Gate + Sync, B: Candidates + Walk + Sync> Finder<'a, 'b, G, B> {
         Report { seat, answer }
     }
 
-    /// A seat for each split that the first one has left.
-    fn split_all(
-        &self,
-        alloc: Global,
-        claims: &Claims,
-        first: &mut ClaimSeat,
-    ) -> Result<Vec<ClaimSeat>, AllocError>
-        requires object { first.old.object ≡ claims.now }
-        requires new { first.old.view ≡ opened first.old.view.parts first.old.view.splits }
-        ensures len { IfOk result (λ seats. vec_len seats ≡ first.old.view.splits) }
-        ensures fresh { IfOk result (λ seats. All (IsFresh claims.now first.old.view.parts) seats.items) }
-        ensures first { IfOk result (λ seats. IsFirst claims.now first.old.view.parts (vec_len seats) first.new) }
-        ensures unused { IfOk result (λ seats. IsUnused first.new.view) }
-    {
-        let mut seats = Vec::new(alloc);
-        while let Some(seat) = claims.split(first) {
-            seats.push(seat)?;
-        }
-        Ok(seats)
-    }
-
     /// Joins the workers into the first seat, in their order.
     fn gather(
         &self,
@@ -142,7 +141,7 @@ impl<'a, 'b, G: Gate + Sync, B: Candidates + Walk + Sync> Finder<'a, 'b, G, B> {
         requires new { first.old.view ≡ opened (length (B.part_lists self.now.task.now.space.now)) self.now.task.now.workers }
         ensures { IfOk result (HaveJoined (searched B.template self.now) self.now.entries.now self.now.budget claims.now self.now.task.now.workers 0 first.new) }
     {
-        let seats = self.split_all(alloc, claims, first)?;
+        let seats = split_all(alloc, claims, first)?;
         let reports = fork(
             rt,
             alloc,

@@ -1,5 +1,5 @@
 //! One round of workers that look for a class that joins.
-ghost use Rattle.std.specs.Prelude.{◌≡◌, ◌≤◌, ◌-◌, length, IfOk, IfErr};
+ghost use Rattle.std.specs.Prelude.{◌≡◌, ◌≤◌, length, IfOk, IfErr};
 ghost use Rattle.sw_filter.specs.declared.filter.Mode.TheVariants.{Finish as FinishMode};
 ghost use Rattle.sw_hand.specs.Hands.{search_of};
 ghost use Rattle.sw_seek.specs.Seeking.{CanFinish, IsCause};

@@ -1,10 +1,10 @@
 use Rattle.std.proofs.Common.{◌≡◌, ◌+◌, All, vec_len}
 use Rattle.sw_claims.specs.Sharing.{IsFresh}
 use Rattle.sw_finishing.specs.Joins.{IsFirst, IsUnused}
-use Rattle.sw_finishing.proofs.finding.Finder.split_all.Given as goal
+use Rattle.sw_finishing.proofs.finding.split_all.Given as goal
 
 abbrev pub invariant-loop-seat : goal.invariant-loop-seat
-invariant-loop-seat g l = record {
+invariant-loop-seat l = record {
   seat : IsFirst l.claims l.initial.first.view.parts (vec_len l.seats) l.first;
   unused : IsUnused l.first.view;
   count : vec_len l.seats + l.first.view.splits ≡ l.initial.first.view.splits;
@@ -12,4 +12,4 @@ invariant-loop-seat g l = record {
 }
 
 abbrev pub decreases-loop-seat : goal.decreases-loop-seat
-decreases-loop-seat g l = l.first.view.splits
+decreases-loop-seat l = l.first.view.splits
