@@ -38,14 +38,47 @@ transition_sync =
 pub protocol_sync : IsSync protocol.the_row
 protocol_sync =
     recorded_sync protocol.the_field.row _ _ protocol.the_type.to_one
-    (struct_sync (shape protocol.the_type) (signature.the_field_sync, (items_sync _ formula_sync, (items_sync _ formula_sync, (items_sync _ transition_sync, (items_sync _ formula_sync, (items_sync _ decl.the_sync, tt)))))))
+    (struct_sync (shape protocol.the_type) (
+      signature.the_field_sync,
+      (
+        items_sync _ formula_sync,
+        (
+          items_sync _ formula_sync,
+          (
+            items_sync _ transition_sync,
+            (items_sync _ formula_sync, (items_sync _ decl.the_sync, tt)),
+          ),
+        ),
+      ),
+    ))
 
 task_sync : (a : NamedLft) (B : RattleType) → IsSync B → IsSync (task.the_row a B)
 task_sync a B s =
     recorded_sync (task.the_field a B).row _ _ (task.the_type a B).to_one
-    (struct_sync (shape (task.the_type a B)) (shr_sync _ _ _ protocol_sync, (shr_sync _ _ _ s, (shr_sync _ _ _ pool.the_sync, (mode.the_field_sync, (search sendable, (search sendable, tt)))))))
+    (struct_sync (shape (task.the_type a B)) (
+      shr_sync _ _ _ protocol_sync,
+      (
+        shr_sync _ _ _ s,
+        (
+          shr_sync _ _ _ pool.the_sync,
+          (
+            mode.the_field_sync,
+            (search sendable, (search sendable, tt)),
+          ),
+        ),
+      ),
+    ))
 
 pub finder_sync : (a b : NamedLft) (G B : RattleType) → IsSync G → IsSync B → IsSync (finder.the_row a b G B)
 finder_sync a b G B g s =
     recorded_sync (finder.the_field a b G B).row _ _ (finder.the_type a b G B).to_one
-    (struct_sync (shape (finder.the_type a b G B)) (shr_sync _ _ _ (task_sync a B s), (search (formula_sync, sendable), (search (crosses, sendable), (shr_sync _ _ _ g, tt)))))
+    (struct_sync (shape (finder.the_type a b G B)) (
+      shr_sync _ _ _ (task_sync a B s),
+      (
+        search (formula_sync, sendable),
+        (
+          search (crosses, sendable),
+          (shr_sync _ _ _ g, tt),
+        ),
+      ),
+    ))

@@ -24,20 +24,24 @@ pub ok_weaker : {A E : Type 0} (P Q : A → Type 0) (r : Result A E) → ((x : A
 ok_weaker P Q (Ok x) weaker h = weaker x h
 ok_weaker P Q (Err e) weaker h = tt
 
-module _ {G S : Type 0} (template : S → Template) (lists : S → List (List (List ℕ))) (Has : S → Class → Type 0) (formula : S → Class → Formula) (f : Finder G S) (can : CanFind template lists Has formula f) where
+module _ {G S : Type 0} (template : S → Template) (lists : S → List (List (List ℕ))) (Has : S → Class → Type 0) (formula : S → Class → Formula)
+    (f : Finder G S) (can : CanFind template lists Has formula f) where
   abbrev Named : Search
   Named = search_of f.task.now.protocol.now (template f.task.now.space.now) Finish f.task.now.workers
 
   same : Named ≡ searched template f
   same = ap (λ mode. search_of f.task.now.protocol.now (template f.task.now.space.now) mode f.task.now.workers) (sym can.finish)
 
-  pub opened_is : (c : ClaimView) (splits : ℕ) → c ≡ opened (length (lists f.task.now.space.now)) splits → c ≡ opened (length (parts_in (searched template f))) splits
+  pub opened_is : (c : ClaimView) (splits : ℕ) → c ≡ opened (length (lists f.task.now.space.now)) splits
+      → c ≡ opened (length (parts_in (searched template f))) splits
   opened_is c splits e = e ∙ ap (λ ps. opened (length ps) splits) can.can.are_parts
 
-  pub sought_alone : (a : Result Sought FinishError) (c d : ClaimView) → c ≡ opened (length (lists f.task.now.space.now)) 0 → IfOk a (IsSought Named f.task.now.pool.now f.task.now.worker f.entries.now f.budget c d)
+  pub sought_alone : (a : Result Sought FinishError) (c d : ClaimView) → c ≡ opened (length (lists f.task.now.space.now)) 0
+      → IfOk a (IsSought Named f.task.now.pool.now f.task.now.worker f.entries.now f.budget c d)
       → IfOk a (IsSought (searched template f) f.task.now.pool.now 0 f.entries.now f.budget (opened (length (parts_in (searched template f))) 0) d)
   sought_alone a c d e h =
-      subst (λ n. IfOk a (IsSought (searched template f) f.task.now.pool.now n f.entries.now f.budget (opened (length (parts_in (searched template f))) 0) d)) can.zero
+      subst (λ n. IfOk a (IsSought (searched template f) f.task.now.pool.now n f.entries.now f.budget (opened (length (parts_in (searched template f))) 0) d))
+      can.zero
       (subst (λ v. IfOk a (IsSought (searched template f) f.task.now.pool.now f.task.now.worker f.entries.now f.budget v d)) (opened_is c 0 e)
       (subst (λ m. IfOk a (IsSought m f.task.now.pool.now f.task.now.worker f.entries.now f.budget c d)) same h))
 

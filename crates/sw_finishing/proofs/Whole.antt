@@ -1,6 +1,6 @@
 -- What the shares of all workers leave: a whole round, in which no class joins.
 use Rattle.std.specs.Prelude.{◌≡◌, ℕ, suc, ◌+◌, ◌<◌, ◌≤◌, ◌==◌, if◌then◌else◌, List, [], ◌∷◌, ◌++◌, length, take, Some, slice_get, unwrap_or, Contains}
-use Rattle.std.specs.List.{AllByRecursion, flat_map}
+use Rattle.std.specs.List.{AllByRecursion}
 use Rattle.std.proofs.Common.{arith, refl, sym, ap, subst, ◌∙◌, inl, inr}
 use Rattle.std.proofs.lemmas.Bool.{cases_lt, cases_eq, ne_eqb, lt-ltb}
 use Rattle.std.proofs.lemmas.List.{append-nil, take_all}
@@ -28,7 +28,7 @@ use Rattle.sw_walk.specs.Parts.{all_classes, part_at}
 use Rattle.sw_seek.specs.Seeking.{NoneJoins}
 use Rattle.sw_finishing.specs.Finished.{IsGathered}
 use Rattle.sw_finishing.specs.Joins.{AreWhole, IsShareUnder}
-use Rattle.sw_finishing.specs.Shares.{gathered_of, one_round}
+use Rattle.sw_finishing.specs.Shares.{all_drawn, gathered_of, one_round}
 
 -- ---- numbers that were drawn
 same_times : (x : ℕ) (xs : List ℕ) → claim_times x xs ≡ times x xs
@@ -39,7 +39,8 @@ among_times : (x : ℕ) (xs : List ℕ) → 1 ≤ times x xs → Contains xs x
 among_times x [] h = absurd (omega arith)
 among_times x (y ∷ ys) h = elim (cases_eq y x) [
   | inl same ↦ subst (Contains (y ∷ ys)) same (contains_head y ys)
-  | inr other ↦ let none : ◌≡◌ {A = ℕ} (if y == x then 1 else 0) 0 = ap (λ b. if b then 1 else 0) (ne_eqb y x other) in contains_tail y ys x (among_times x ys (omega (arith, h, none)))
+  | inr other ↦ let none : ◌≡◌ {A = ℕ} (if y == x then 1 else 0) 0 = ap (λ b. if b then 1 else 0) (ne_eqb y x other) in
+      contains_tail y ys x (among_times x ys (omega (arith, h, none)))
 ]
 
 -- the share of the worker that drew a number
@@ -49,10 +50,10 @@ record Drew (shares : List Share) (x : ℕ) : Type 0 where
   at : slice_get shares worker ≡ Some share
   among : Contains share.drawn x
 
-drew : (x : ℕ) (shares : List Share) → 1 ≤ times x (flat_map (λ (s : Share). s.drawn) shares) → Drew shares x
+drew : (x : ℕ) (shares : List Share) → 1 ≤ times x (all_drawn shares) → Drew shares x
 drew x [] h = absurd (omega arith)
 drew x (s ∷ ss) h =
-    let both : times x (s.drawn ++ flat_map (λ (s : Share). s.drawn) ss) ≡ times x s.drawn + times x (flat_map (λ (s : Share). s.drawn) ss) = times-append x s.drawn (flat_map (λ (s : Share). s.drawn) ss) in
+    let both : times x (s.drawn ++ all_drawn ss) ≡ times x s.drawn + times x (all_drawn ss) = times-append x s.drawn (all_drawn ss) in
     elim (cases_lt 0 (times x s.drawn)) [
       | inl here ↦ record { worker = 0; share = s; at = refl; among = among_times x s.drawn (omega (arith, here)) }
       | inr none ↦ let d = drew x ss (omega (arith, h, both, none)) in record { worker = suc d.worker; share = d.share; at = d.at; among = d.among }
@@ -63,7 +64,8 @@ module _ (m : Search) (g : List Formula) where
   abbrev Never : List ℕ → Type 0
   Never class = Joins m.protocol g (formula_in m class) → ⊥
 
-  settled_none : (finish : m.mode ≡ Finish) (worker : ℕ) (fs : List Filter) (x : Settled) → IsSettledBy m worker g fs x → IsTimely m (length g) g fs x → AllByRecursion Never (part_at (parts_in m) x.part)
+  settled_none : (finish : m.mode ≡ Finish) (worker : ℕ) (fs : List Filter) (x : Settled) → IsSettledBy m worker g fs x → IsTimely m (length g) g fs x
+      → AllByRecursion Never (part_at (parts_in m) x.part)
   settled_none finish worker fs x s t =
       each-weaker (λ class. Good m.protocol m.mode (take x.under g) (formula_in m class) (filters_at fs x.by)) Never
       (λ class good. good_does_not_join m.protocol g (formula_in m class) (filters_at fs x.by)
@@ -71,7 +73,8 @@ module _ (m : Search) (g : List Formula) where
       (subst (λ mode. Good m.protocol mode (take x.under g) (formula_in m class) (filters_at fs x.by)) finish good)))
       (part_at (parts_in m) x.part) s.good
 
-  drawn_none : (finish : m.mode ≡ Finish) (shares : List Share) → ((i : ℕ) (s : Share) → slice_get shares i ≡ Some s → IsShareUnder m g i s) → (x : ℕ) → 1 ≤ times x (flat_map (λ (s : Share). s.drawn) shares)
+  drawn_none : (finish : m.mode ≡ Finish) (shares : List Share) → ((i : ℕ) (s : Share) → slice_get shares i ≡ Some s → IsShareUnder m g i s) → (x : ℕ)
+      → 1 ≤ times x (all_drawn shares)
       → AllByRecursion Never (part_at (parts_in m) x)
   drawn_none finish shares each x h =
       let d = drew x shares h in
@@ -82,7 +85,7 @@ module _ (m : Search) (g : List Formula) where
       subst (λ n. AllByRecursion Never (part_at (parts_in m) n)) found.2 (settled_none finish d.worker (filters_of d.share.kept) found.0 s t)
 
   pub none_joins : (finish : m.mode ≡ Finish) (shares : List Share) → ((i : ℕ) (s : Share) → slice_get shares i ≡ Some s → IsShareUnder m g i s)
-      → ((x : ℕ) → times x (flat_map (λ (s : Share). s.drawn) shares) ≡ once_below x (length (parts_in m))) → NoneJoins m.protocol m.template g (all_classes (parts_in m))
+      → ((x : ℕ) → times x (all_drawn shares) ≡ once_below x (length (parts_in m))) → NoneJoins m.protocol m.template g (all_classes (parts_in m))
   none_joins finish shares each once class among =
       of_contained Never (all_classes (parts_in m)) class
       (each-flat_map Never (λ part. part) (parts_in m) (each_got (AllByRecursion Never) (parts_in m) (λ k part at.
@@ -96,7 +99,7 @@ module _ (m : Search) (g : List Formula) where
   Quiet shares = record { shares = shares; entries = [] }
 
   whole_round : (shares : List Share) → length shares ≡ m.workers → ((i : ℕ) (s : Share) → slice_get shares i ≡ Some s → IsShareUnder m g i s)
-      → ((x : ℕ) → times x (flat_map (λ (s : Share). s.drawn) shares) ≡ once_below x (length (parts_in m))) → AreOutcomes m g [] (Quiet shares ∷ [])
+      → ((x : ℕ) → times x (all_drawn shares) ≡ once_below x (length (parts_in m))) → AreOutcomes m g [] (Quiet shares ∷ [])
   whole_round shares count each once =
       let same : g ++ [] ≡ g = append-nil g in (
         record {
@@ -105,16 +108,19 @@ module _ (m : Search) (g : List Formula) where
           entries = tt;
           shares = λ i s at. subst (λ l. IsShare m [] l i s) (sym same) (each i s at).share;
         },
-        subst (λ l. AllByRecursion (IsLiveBy m l (filters_of (kept_of shares))) (settled_of 0 0 shares)) (sym same) (quiet_round_closes m g [] shares (λ i s at. (each i s at).timely)),
+        subst (λ l. AllByRecursion (IsLiveBy m l (filters_of (kept_of shares))) (settled_of 0 0 shares)) (sym same)
+            (quiet_round_closes m g [] shares (λ i s at. (each i s at).timely)),
       )
 
   one_is : (shares : List Share) → one_round (length g) (gathered_of shares) ≡ record_of (length g) (Quiet shares ∷ [])
   one_is shares = let n : length g ≡ length g + 0 = omega arith in ap (λ k. one_round k (gathered_of shares)) n
 
-  pub once_of : (c : ClaimView) (n : ℕ) (shares : List Share) → c.drawn ≡ flat_map (λ (s : Share). s.drawn) shares → IsEachBelow n c.drawn → (x : ℕ) → times x (flat_map (λ (s : Share). s.drawn) shares) ≡ once_below x n
+  pub once_of : (c : ClaimView) (n : ℕ) (shares : List Share) → c.drawn ≡ all_drawn shares → IsEachBelow n c.drawn → (x : ℕ)
+      → times x (all_drawn shares) ≡ once_below x n
   once_of c n shares e below x = ap (times x) (sym e) ∙ (sym (same_times x c.drawn) ∙ below.once x)
 
-  pub whole_is : (finish : m.mode ≡ Finish) (c : ClaimView) (n : ℕ) (shares : List Share) (r : Record) → AreWhole m g m.workers c shares → IsEachBelow n c.drawn → n ≡ length (parts_in m) → r ≡ one_round (length g) (gathered_of shares)
+  pub whole_is : (finish : m.mode ≡ Finish) (c : ClaimView) (n : ℕ) (shares : List Share) (r : Record) → AreWhole m g m.workers c shares
+      → IsEachBelow n c.drawn → n ≡ length (parts_in m) → r ≡ one_round (length g) (gathered_of shares)
       → IsGathered m g r × NoneJoins m.protocol m.template g (all_classes (parts_in m))
   whole_is finish c n shares r w below all is =
       let once = λ (x : ℕ). once_of c n shares w.drawn_are below x ∙ ap (once_below x) all in

@@ -1,6 +1,6 @@
 -- What the seats of a search know, what the workers hand back, and what is known once they were joined.
 use Rattle.std.specs.Prelude.{◌≡◌, ℕ, ◌+◌, ◌≤◌, ◌==◌, if◌then◌else◌, true, List, [], ◌∷◌, length, Option, Some, IfOk, IfErr, slice_get, Result, Ok, Err}
-use Rattle.std.specs.List.{AllByRecursion, flat_map}
+use Rattle.std.specs.List.{AllByRecursion}
 use Rattle.atomic_table.specs.Seated.{TableId}
 use Rattle.sw_logic.specs.declared.syntax.Formula.{Formula}
 use Rattle.sw_meaning.specs.declared.template.Template.{Template}
@@ -24,7 +24,7 @@ use Rattle.sw_finishing.specs.declared.finding.Finder.{Finder}
 use Rattle.sw_finishing.specs.declared.joining.Joined.{Joined}
 use Rattle.sw_finishing.specs.declared.joining.Joined.TheVariants as joined
 use Rattle.sw_finishing.specs.declared.joining.Report.{Report}
-use Rattle.sw_finishing.specs.Shares.{gathered_of, with_share}
+use Rattle.sw_finishing.specs.Shares.{all_drawn, gathered_of, with_share}
 
 -- what is searched
 abbrev pub searched : {G S : Type 0} → (S → Template) → Finder G S → Search
@@ -35,7 +35,8 @@ pub record CanFind {G S : Type 0} (template : S → Template) (lists : S → Lis
   pub finish : f.task.now.mode ≡ Finish
   pub zero : f.task.now.worker ≡ 0
   pub some : 1 ≤ f.task.now.workers
-  pub can : CanFinish f.task.now.protocol.now (template f.task.now.space.now) (lists f.task.now.space.now) (Has f.task.now.space.now) (formula f.task.now.space.now) f.entries.now f.budget
+  pub can : CanFinish f.task.now.protocol.now (template f.task.now.space.now) (lists f.task.now.space.now) (Has f.task.now.space.now)
+      (formula f.task.now.space.now) f.entries.now f.budget
 
 -- ---- seats
 
@@ -77,7 +78,7 @@ pub record IsShareUnder (m : Search) (g : List Formula) (worker : ℕ) (s : Shar
 -- so many workers handed back their shares, and none stopped
 pub record AreWhole (m : Search) (g : List Formula) (done : ℕ) (c : ClaimView) (shares : List Share) : Type 0 where
   pub count : length shares ≡ done
-  pub drawn_are : c.drawn ≡ flat_map (λ (s : Share). s.drawn) shares
+  pub drawn_are : c.drawn ≡ all_drawn shares
   pub ended : 1 ≤ done → 1 ≤ c.ends
   pub silent : c.wrote ≡ 0
   pub each : (i : ℕ) (s : Share) → slice_get shares i ≡ Some s → IsShareUnder m g i s

@@ -47,8 +47,8 @@ fn others(workers: u32) -> u32
 impl<'a, 'b, G: Gate + Sync, B: Candidates + Walk + Sync> Finder<'a, 'b, G, B> {
     ghost use Rattle.sw_finishing.specs.Joins.{CanFind, IsOver, searched};
 
-    /// The answer of workers that were joined. They stop without an error only where one of them wrote
-    /// a reason, so that this is not what they came to.
+    /// The answer of workers that were joined. A stop alone is not what they came to: whoever wrote its
+    /// reason found a class or met an error.
     fn conclude(
         &self,
         alloc: Global,

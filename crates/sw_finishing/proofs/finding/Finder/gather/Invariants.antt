@@ -5,4 +5,5 @@ use Rattle.sw_finishing.proofs.finding.Finder.gather.Given as goal
 
 abbrev pub invariant-loop-report : goal.invariant-loop-report
 invariant-loop-report g l =
-    Gathering (searched g.B.Walk.template l.self) l.self.entries.now l.self.budget l.self.task.now.pool.now l.claims (into_iter_items l.report-iterator) l.first l.joined
+    Gathering (searched g.B.Walk.template l.self) l.self.entries.now l.self.budget l.self.task.now.pool.now l.claims
+    (into_iter_items l.report-iterator) l.first l.joined

@@ -39,4 +39,5 @@ gather-requires-clause-reports g c κs within =
     let reports = c.in_ok-reports.reports.ok.0 in
     let x = c.in_ok-reports.ensures.each i d (omega (arith, lt, len, seats, reports)) in
     let here : 0 + i ≡ i = omega arith in
-    subst (λ n. IsReport m s.entries.now s.budget s.task.now.pool.now c.args.claims.now n (slice_index_or c.in_ok-reports.reports.items i d)) (sym here) (search (rules, x.call)))
+    subst (λ n. IsReport m s.entries.now s.budget s.task.now.pool.now c.args.claims.now n (slice_index_or c.in_ok-reports.reports.items i d)) (sym here)
+    (search (rules, x.call)))
