@@ -45,12 +45,14 @@ end_keeps : {X : Type 0} (f : ClaimView → X) (c d : ClaimView) (n : ℕ) → c
 end_keeps f c d zero e same plain w = ap f (w.now e) ∙ same 1 (looked c).looks
 end_keeps f c d (suc n) e same plain w = ap f (w.earlier (omega (arith, e))) ∙ plain
 
-pub has_drawn : (o c d : ClaimView) (drawn : List ℕ) → MeetsEnd (looked c) d → c.drawn ≡ o.drawn ++ drawn → c.wrote ≡ o.wrote → c.parts ≡ o.parts → HasDrawn o d drawn
-has_drawn o c d drawn w e wrote parts = record {
+pub has_drawn : (o c d : ClaimView) (drawn : List ℕ) → MeetsEnd (looked c) d → c.drawn ≡ o.drawn ++ drawn → c.wrote ≡ o.wrote → c.parts ≡ o.parts → c.first ≡ o.first → c.out ≡ o.out → HasDrawn o d drawn
+has_drawn o c d drawn w e wrote parts first out = record {
   gained = end_keeps (λ (x : ClaimView). x.drawn) c d c.ends refl (λ k l. refl) refl w ∙ e;
   ended = end_met c d c.ends refl w;
   wrote = end_keeps (λ (x : ClaimView). x.wrote) c d c.ends refl (λ k l. refl) refl w ∙ wrote;
   parts = end_keeps (λ (x : ClaimView). x.parts) c d c.ends refl (λ k l. refl) refl w ∙ parts;
+  first = end_keeps (λ (x : ClaimView). x.first) c d c.ends refl (λ k l. refl) refl w ∙ first;
+  out = end_keeps (λ (x : ClaimView). x.out) c d c.ends refl (λ k l. refl) refl w ∙ out;
 }
 
 -- alone, all parts were drawn then

@@ -121,7 +121,7 @@ returns-in-AllDrawn-clause-drew g c =
     let drawn : List ℕ = c.loop.progress.drawn in
     let ends : MeetsEnd (looked cl) d = c.in-AllDrawn.ensures.draws.1 in
     record {
-      drew = has_drawn o cl d drawn ends inv.drawn inv.wrote inv.parts;
+      drew = has_drawn o cl d drawn ends inv.drawn inv.wrote inv.parts inv.first inv.out;
       in_order = inv.in_order;
       promised = inv.promised;
       leads = λ only lone.
@@ -179,6 +179,8 @@ loop-preserved g c =
       claims = c.draw.ensures.object ∙ inv.claims;
       parts = ap (λ (y : ClaimView). y.parts) draws.gained ∙ inv.parts;
       wrote = ap (λ (y : ClaimView). y.wrote) draws.gained ∙ inv.wrote;
+      first = ap (λ (y : ClaimView). y.first) draws.gained ∙ inv.first;
+      out = ap (λ (y : ClaimView). y.out) draws.gained ∙ inv.out;
       drawn = drawn_number cl d n o.drawn drawn draws inv.drawn ∙ ap (λ (l : List ℕ). o.drawn ++ l) (sym more);
       in_order = ap (λ (l : List Settled). map (λ (y : Settled). y.part) l) settled ∙ (map-append (λ (y : Settled). y.part) c.loop.progress.settled (x ∷ [])
           ∙ (ap (λ (l : List ℕ). l ++ x.part ∷ []) inv.in_order ∙ (ap (λ (k : ℕ). drawn ++ k ∷ []) ens.part ∙ sym more)));

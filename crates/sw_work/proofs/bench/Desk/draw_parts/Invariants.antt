@@ -12,6 +12,8 @@ invariant-loop g l = record {
   claims : l.claim_seat.object ≡ l.fn.claim_seat.object;
   parts : l.claim_seat.view.parts ≡ l.fn.claim_seat.view.parts;
   wrote : l.claim_seat.view.wrote ≡ l.fn.claim_seat.view.wrote;
+  first : l.claim_seat.view.first ≡ l.fn.claim_seat.view.first;
+  out : l.claim_seat.view.out ≡ l.fn.claim_seat.view.out;
   drawn : l.claim_seat.view.drawn ≡ l.fn.claim_seat.view.drawn ++ l.progress.drawn;
   in_order : map (λ (x : Settled). x.part) l.progress.settled ≡ l.progress.drawn;
   promised : AllByRecursion (IsPromised (searched g.B.Walk.template l.self.task.now) l.self.task.now.worker l.before (length l.fn.seat.view.seen) l.bench.formulas l.bench.hand.kept) l.progress.settled;
