@@ -85,7 +85,7 @@ refuted set u g is h budget steps r = record {
 
 pub spent : (set : SkolemSet) (u : Universe) (g : Ground) (is : List Instance) → AreSolved g is set u → (budget : Option ℕ) (steps : List Derived) → IsSpent g.cnf budget steps
     → IsSpentOver set u budget (record { instances = is; steps = steps })
-spent set u g is h budget steps r = record { ground = g; instances = subst (AllByRecursion _) (sym h.all) (sound set u); made = h.made; steps = r }
+spent set u g is h budget steps r = record { ground = g; all = h.all; instances = subst (AllByRecursion _) (sym h.all) (sound set u); made = h.made; steps = r }
 
 -- a structure of all instances
 pub record IsMade (g : Ground) (is : List Instance) (values : List Bool) (s : Structure) (set : SkolemSet) (u : Universe) : Type 0 where

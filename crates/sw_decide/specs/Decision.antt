@@ -12,6 +12,7 @@ use Rattle.sw_universe.specs.declared.universe.Universe.{Universe}
 use Rattle.sw_universe.specs.declared.sizes.Size.{Size}
 use Rattle.sw_universe.specs.Sizes.{size_of_set}
 use Rattle.sw_skolem.specs.Skolem.{skolem_of}
+use Rattle.sw_instances.specs.AllInstances.{instances_of}
 use Rattle.sw_instances.specs.Instances.{AreInstances}
 use Rattle.sw_instances.specs.Numbered.{IsGround}
 use Rattle.sw_ground.specs.Verdict.{universe, AcceptedRefutation}
@@ -31,9 +32,10 @@ pub record IsRefutationOf (q : Query) (budget : Option ℕ) (r : Refutation) : T
   pub accepted : AcceptedRefutation q r
   pub within : IfSome budget (λ most. length r.steps ≤ most + 1)
 
--- instances, and as many steps after their clauses as the budget allows: accepted and nonempty, and none contains a clause that stood before it
+-- all instances, and as many steps after their clauses as the budget allows: accepted and nonempty, and none contains a clause that stood before it
 pub record IsSpentOver (set : SkolemSet) (u : Universe) (budget : Option ℕ) (r : Refutation) : Type 0 where
   pub ground : Ground
+  pub all : r.instances ≡ instances_of set u
   pub instances : AreInstances set u r.instances
   pub made : IsGround set u r.instances ground
   pub steps : IsSpent ground.cnf budget r.steps

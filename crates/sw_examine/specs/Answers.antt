@@ -1,5 +1,5 @@
 -- What the decision of a query says, and which queries can be decided.
-use Rattle.std.specs.Prelude.{◌≡◌, ℕ, true, false, List, Option}
+use Rattle.std.specs.Prelude.{ℕ, true, false, List, Option}
 use Rattle.std.specs.List.{AllByRecursion}
 use Rattle.sw_logic.specs.declared.syntax.Edge.{Edge}
 use Rattle.sw_logic.specs.declared.syntax.Formula.{Formula}
@@ -10,14 +10,10 @@ use Rattle.sw_meaning.specs.declared.protocol.Protocol.{Protocol}
 use Rattle.sw_meaning.specs.Edges.{IsStratifiedWith}
 use Rattle.sw_query_laws.specs.Edges.{AddsAmong}
 use Rattle.sw_truth.specs.declared.instances.Refutation.{Refutation}
-use Rattle.sw_universe.specs.declared.sizes.Size.{Size}
 use Rattle.sw_decide.specs.declared.decision.Decision.{Decision}
 use Rattle.sw_decide.specs.declared.decision.Decision.TheVariants.{Refuted, Found, Spent, TooLarge}
-use Rattle.sw_decide.specs.Decision.{size_of_query, IsPast, IsRefutationOf, IsSpentOn, HasNoStructure}
-
--- the query is not too large
-abbrev pub IsWithin : Query → Type 0
-IsWithin q = IsPast (size_of_query q) → ⊥
+use Rattle.sw_decide.specs.Decision.{IsRefutationOf, HasNoStructure}
+pub use Rattle.sw_decide.specs.Known.{IsWithin, IsSpentBy, IsTooLargeBy}
 
 -- an accepted refutation: no structure satisfies the query
 pub record IsRefutedBy (q : Query) (budget : Option ℕ) (r : Refutation) : Type 0 where
@@ -28,15 +24,6 @@ pub record IsRefutedBy (q : Query) (budget : Option ℕ) (r : Refutation) : Type
 pub record IsMetBy (q : Query) (s : Structure) : Type 0 where
   pub within : IsWithin q
   pub satisfies : Satisfies q s
-
--- the budget was spent on the query
-pub record IsSpentBy (q : Query) (budget : Option ℕ) (r : Refutation) : Type 0 where
-  pub within : IsWithin q
-  pub spent : IsSpentOn q budget r
-
-pub record IsTooLargeBy (q : Query) (size : Size) : Type 0 where
-  pub past : IsPast (size_of_query q)
-  pub is : size ≡ size_of_query q
 
 abbrev pub IsAnswer : Query → Option ℕ → Decision → Type 0
 IsAnswer q budget (Refuted r) = IsRefutedBy q budget r

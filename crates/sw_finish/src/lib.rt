@@ -2,5 +2,7 @@
 #![tactic(auto)]
 
 pub mod finishing;
+mod seeking;
 
-pub use finishing::{FinishError, FinishedOne, finish_one};
+pub use finishing::{FinishError, FinishedOne};
+pub use seeking::finish_one;

@@ -2,6 +2,7 @@
 //! first answer that decides.
 #![tactic(auto)]
 
+pub mod asking;
 pub mod joining;
 pub mod stepping;
 

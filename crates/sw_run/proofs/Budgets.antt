@@ -5,7 +5,7 @@ use Rattle.std.specs.List.{list_all, flat_map}
 use Rattle.std.proofs.Common.{refl, ap, ◌∙◌, subst}
 use Rattle.std.proofs.lemmas.Bool.{leb-true}
 use Rattle.sw_words.specs.declared.commands.Command.{Command}
-use Rattle.sw_words.specs.declared.commands.Command.TheVariants.{Synth, Certify, Space, Print, Check, Drill}
+use Rattle.sw_words.specs.declared.commands.Command.TheVariants.{Synth, Certify, Print, Check, Drill}
 use Rattle.sw_words.specs.declared.commands.Options.{Options}
 use Rattle.sw_words.specs.declared.limits.TheConstants.{MOST_CONFLICTS, LEAST_DRILL, MOST_DRILL}
 use Rattle.sw_words.specs.Grammar.{Word, Piece, named, value, Given, number_of, within, number_within, workers_of, conflicts_of, value_of, search_names, options_from, options_with, options_of, drill_with, drill_by, drill_of, space_of, alone, command_with, command_of, may_stand, pieces}

@@ -1,5 +1,5 @@
 -- The causes of different answers exclude each other.
-use Rattle.std.specs.Prelude.{◌≡◌, ◌⊎◌, ℕ, ◌+◌, ◌<◌, ◌≤◌, true, false, List, ◌++◌, length, Option, Some, None, IfSome, Result, Ok, Err, option_map}
+use Rattle.std.specs.Prelude.{◌≡◌, ◌⊎◌, ℕ, ◌+◌, ◌<◌, ◌≤◌, true, false, List, ◌++◌, length, Option, Some, None, IfSome, Ok, Err, option_map}
 use Rattle.std.proofs.Common.{refl, arith, sym, ap, ◌∙◌, subst, inl, inr, length-append}
 use Rattle.std.proofs.lemmas.Bool.{false≢true}
 use Rattle.std.proofs.lemmas.Option.{same_Some}
@@ -10,16 +10,16 @@ use Rattle.sw_words.specs.declared.commands.Command.{Command}
 use Rattle.sw_words.specs.declared.commands.Command.TheVariants.{Synth, Space, Print}
 use Rattle.sw_words.specs.declared.commands.Options.{Options}
 use Rattle.sw_meaning.specs.declared.template.Template.{Template}
-use Rattle.sw_run.specs.Words.{is_plain, is_served, asks_check}
-use Rattle.sw_run.specs.Ending.{Change, Answer, Faults, Misreads, Reads, Searches, Reports, Stops, NamesBy, Prints, Sizes, IsInput, IsTooLong, Allowed, AllowedCheck, refused, sized}
+use Rattle.sw_run.specs.Words.{has_one_worker, is_served, asks_check}
+use Rattle.sw_run.specs.Ending.{Change, Answer, Faults, Misreads, Reads, Searches, Reports, Stops, Names, NamesFault, NamesBy, Prints, Sizes, IsInput, IsTooLong, Allowed, AllowedCheck, refused, sized}
 use Rattle.sw_run.specs.Laws.{Tells, LacksMemory, IsRefusedUnread, WordsChoose, InputChooses, SearchChooses, SizeChooses, RowsExcludeEachOther}
 use Rattle.sw_run.specs.declared.input.TheConstants.{INPUT_LIMIT}
 use Rattle.sw_run.specs.declared.told.Refusal.{Refusal}
-use Rattle.sw_run.specs.declared.told.Refusal.TheVariants.{Usage, TooLong, SpaceFaulty, BreadthFaulty, Unbuilt, ReadFault}
+use Rattle.sw_run.specs.declared.told.Refusal.TheVariants.{Usage, TooLong, SpaceFaulty, BreadthFaulty, FinishFaulty, Unbuilt, ReadFault}
 use Rattle.sw_space.specs.declared.faults.SpaceFault.{SpaceFault}
 use Rattle.sw_space.specs.Named.{HasSpace}
 use Rattle.sw_space.proofs.OneSpace.{one_space}
-use Rattle.sw_run.proofs.Naming.{same_named, same_fault, unfaulty, named_not_faulty, one_breadth_fault}
+use Rattle.sw_run.proofs.Naming.{same_named, same_fault, unfaulty, named_not_faulty, one_named_fault, named_not_unfinished, one_finish_fault}
 use Rattle.sw_run.proofs.Inputs.{one_fault, not_both, one_text}
 
 -- ---- words
@@ -56,7 +56,7 @@ module _ (command : Option Command) (input : Change) (a : Answer) where
   unserved_alone c some off (Allowed.print e reads) = absurd (other_served command c Print some e off refl)
   unserved_alone c some off (Allowed.no_memory is) = inr is
 
-  synth_alone : (o : Options) → command ≡ Some (Synth o) → is_plain o ≡ true → Allowed command input a → Reads input (Searches o) a ⊎ LacksMemory a
+  synth_alone : (o : Options) → command ≡ Some (Synth o) → has_one_worker o ≡ true → Allowed command input a → Reads input (Searches o) a ⊎ LacksMemory a
   synth_alone o some on (Allowed.usage none u is) = absurd (no_command command (Synth o) none some)
   synth_alone o some on (Allowed.unserved c e off u is) = absurd (other_served command c (Synth o) e some off on)
   synth_alone o some on (Allowed.synth p e plain reads) =
@@ -184,28 +184,36 @@ module _ (input : Change) (bytes : List ℕ) (told : input.before ≡ Some bytes
 -- ---- protocols
 
 search_chooses : (options : Options) (p : Protocol) (a : Answer) → SearchChooses options p a
-search_chooses options p a = record { told = told; faulty = faulty }
+search_chooses options p a = record { told = told; breadth_faulty = breadth_faulty; finish_faulty = finish_faulty }
   where
-    told : (t : Option Template) → NamesBy options p t → Searches options p a → Reports options p a ⊎ Stops options p a
-    told t named (Searches.report r) = inl r
-    told t named (Searches.stopped s) = inr s
-    told t named (Searches.faulty text f e has is) = absurd (named_not_faulty options p t named text f e has)
+    told : (t u : Option Template) → NamesBy options p t u → Searches options p a → Reports options p a ⊎ Stops options p a
+    told t u by (Searches.report r) = inl r
+    told t u by (Searches.stopped s) = inr s
+    told t u by (Searches.breadth_faulty f has is) = absurd (named_not_faulty options.breadth p None t f by.breadth has)
+    told t u both (Searches.finish_faulty v f by has is) = absurd (named_not_unfinished options p t u v f both by has)
 
-    faulty : (text : List ℕ) (f : SpaceFault) → options.breadth ≡ Some text → HasSpace p text (Err f) → Searches options p a → a ≡ refused (BreadthFaulty f)
-    faulty text f e has (Searches.report r) = absurd (named_not_faulty options p r.template r.named text f e has)
-    faulty text f e has (Searches.stopped s) = absurd (named_not_faulty options p s.template s.named text f e has)
-    faulty text f e has (Searches.faulty other g e' has' is) = is ∙ ap (λ x. refused (BreadthFaulty x)) (one_breadth_fault options p other text g f e' e has' has)
+    breadth_faulty : (f : SpaceFault) → NamesFault options.breadth p None f → Searches options p a → a ≡ refused (BreadthFaulty f)
+    breadth_faulty f has (Searches.report r) = absurd (named_not_faulty options.breadth p None r.breadth f r.named.breadth has)
+    breadth_faulty f has (Searches.stopped s) = absurd (named_not_faulty options.breadth p None s.breadth f s.named.breadth has)
+    breadth_faulty f has (Searches.breadth_faulty g has' is) = is ∙ ap (λ x. refused (BreadthFaulty x)) (one_named_fault options.breadth p None g f has' has)
+    breadth_faulty f has (Searches.finish_faulty t g by has' is) = absurd (named_not_faulty options.breadth p None t f by has)
+
+    finish_faulty : (t : Option Template) (f : SpaceFault) → Names options.breadth p None t → NamesFault options.finish p t f → Searches options p a → a ≡ refused (FinishFaulty f)
+    finish_faulty t f by has (Searches.report r) = absurd (named_not_unfinished options p r.breadth r.finish t f r.named by has)
+    finish_faulty t f by has (Searches.stopped s) = absurd (named_not_unfinished options p s.breadth s.finish t f s.named by has)
+    finish_faulty t f by has (Searches.breadth_faulty g has' is) = absurd (named_not_faulty options.breadth p None t g by has')
+    finish_faulty t f by has (Searches.finish_faulty v g by' has' is) = is ∙ ap (λ x. refused (FinishFaulty x)) (one_finish_fault options p v t g f by' by has' has)
 
 pub size_chooses : (text : List ℕ) (p : Protocol) (a : Answer) → SizeChooses text p a
 size_chooses text p a = record { sizes = sizes; faulty = faulty }
   where
-    sizes : (t : Template) → HasSpace p text (Ok t) → Sizes text p a → a ≡ sized p t
-    sizes t has (Sizes.sizes u other is) = is ∙ ap (sized p) (same_named u t (one_space p text (Ok u) (Ok t) other has))
-    sizes t has (Sizes.faulty f other is) = absurd (unfaulty t f (one_space p text (Ok t) (Err f) has other))
+    sizes : (t : Template) → HasSpace p None text (Ok t) → Sizes text p a → a ≡ sized p t
+    sizes t has (Sizes.sizes u other is) = is ∙ ap (sized p) (same_named u t (one_space p None text (Ok u) (Ok t) other has))
+    sizes t has (Sizes.faulty f other is) = absurd (unfaulty t f (one_space p None text (Ok t) (Err f) has other))
 
-    faulty : (f : SpaceFault) → HasSpace p text (Err f) → Sizes text p a → a ≡ refused (SpaceFaulty f)
-    faulty f has (Sizes.sizes t other is) = absurd (unfaulty t f (one_space p text (Ok t) (Err f) other has))
-    faulty f has (Sizes.faulty g other is) = is ∙ ap (λ x. refused (SpaceFaulty x)) (same_fault g f (one_space p text (Err g) (Err f) other has))
+    faulty : (f : SpaceFault) → HasSpace p None text (Err f) → Sizes text p a → a ≡ refused (SpaceFaulty f)
+    faulty f has (Sizes.sizes t other is) = absurd (unfaulty t f (one_space p None text (Ok t) (Err f) other has))
+    faulty f has (Sizes.faulty g other is) = is ∙ ap (λ x. refused (SpaceFaulty x)) (same_fault g f (one_space p None text (Err g) (Err f) other has))
 
 pub rows_exclude : RowsExcludeEachOther
 rows_exclude = (

@@ -6,14 +6,18 @@ use Rattle.sw_run.specs.declared.told.Refusal.{Refusal}
 use Rattle.sw_run.specs.declared.told.Refusal.TheVariants.{NoMemory}
 use Rattle.sw_run.specs.declared.report.Report.{Report}
 use Rattle.sw_run.specs.Refusals.{refusal_line, refusal_status}
-use Rattle.sw_run.specs.Ending.{Answer, Ends, Writes, TellsRefusal, IsOrLacksMemory, change, answer_of, refused, Change}
+use Rattle.sw_run.specs.Ending.{Answer, Ends, Writes, TellsLine, TellsRefusal, IsOrLacksMemory, change, answer_of, refused, Change}
+
+-- a line that was told is that of its refusal
+pub tells_same : (e r : Refusal) (err : Change) (status : ℕ) → e ≡ r → TellsRefusal r err status → TellsRefusal e err status
+tells_same e r err status is tells = subst (λ x. TellsRefusal x err status) (sym is) tells
 
 -- a line that was written is that of its refusal
 pub tells_line : (e r : Refusal) (err : Change) (status : ℕ) → e ≡ r → Writes err (refusal_line r) (refusal_status r) status → TellsRefusal e err status
-tells_line e r err status is writes = subst (λ x. TellsRefusal x err status) (sym is) (TellsRefusal.its_line writes)
+tells_line e r err status is writes = tells_same e r err status is (TellsLine.its_line writes)
 
-pub tells_text : (refusal : Refusal) (err : Change) (status : ℕ) (text : List ℕ) → text ≡ refusal_line refusal → Writes err text (refusal_status refusal) status → TellsRefusal refusal err status
-tells_text refusal err status text is writes = TellsRefusal.its_line (subst (λ t. Writes err t (refusal_status refusal) status) is writes)
+pub tells_text : (line : List ℕ) (whole : ℕ) (err : Change) (status : ℕ) (text : List ℕ) → text ≡ line → Writes err text whole status → TellsLine line whole err status
+tells_text line whole err status text is writes = TellsLine.its_line (subst (λ t. Writes err t whole status) is writes)
 
 gains_nothing : (held : Option (List ℕ)) → Gains held held []
 gains_nothing None = refl
@@ -32,10 +36,10 @@ module _ (before now other : Option (List ℕ)) (f g h status : ℕ) where
 
   -- a refusal was told to `err`
   refusal_told : (e : Refusal) → TellsRefusal e (change before now f g) status → Ends (IsOrLacksMemory (refused e)) (change other other h h) (change before now f g) status
-  refusal_told e (TellsRefusal.its_line (Writes.all is gained)) = Ends.told (refused e) (inl refl) is (gains_nothing other) gained
-  refusal_told e (TellsRefusal.its_line (Writes.part is part)) = Ends.err_failed (refused e) (inl refl) is refl (gains_nothing other) part
-  refusal_told e (TellsRefusal.no_memory (Writes.all is gained)) = Ends.told (refused NoMemory) (inr refl) is (gains_nothing other) gained
-  refusal_told e (TellsRefusal.no_memory (Writes.part is part)) = Ends.err_failed (refused NoMemory) (inr refl) is refl (gains_nothing other) part
+  refusal_told e (TellsLine.its_line (Writes.all is gained)) = Ends.told (refused e) (inl refl) is (gains_nothing other) gained
+  refusal_told e (TellsLine.its_line (Writes.part is part)) = Ends.err_failed (refused e) (inl refl) is refl (gains_nothing other) part
+  refusal_told e (TellsLine.no_memory (Writes.all is gained)) = Ends.told (refused NoMemory) (inr refl) is (gains_nothing other) gained
+  refusal_told e (TellsLine.no_memory (Writes.part is part)) = Ends.err_failed (refused NoMemory) (inr refl) is refl (gains_nothing other) part
 
   pub refusal_ends : (told : Result Report Refusal) (e : Refusal) → told ≡ Err e → TellsRefusal e (change before now f g) status
       → Ends (IsOrLacksMemory (answer_of told)) (change other other h h) (change before now f g) status

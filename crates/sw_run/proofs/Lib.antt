@@ -7,4 +7,6 @@ pub mod Naming
 pub mod OneReport
 pub mod OneSearch
 pub mod Rows
+pub mod Safety
 pub mod Sinks
+pub mod Spaces

@@ -4,7 +4,6 @@ use Rattle.std.proofs.Common.{sym, ◌∙◌, subst, inl, inr}
 use Rattle.sw_meaning.specs.declared.protocol.Protocol.{Protocol}
 use Rattle.sw_protocol.specs.Stratified.{IsText}
 use Rattle.sw_words.specs.declared.commands.Command.{Command}
-use Rattle.sw_words.specs.declared.commands.Options.{Options}
 use Rattle.sw_run.specs.Ending.{Change, Answer, Faults, Misreads, Reads, Searches, Prints, Sizes, Allowed, AllowedCheck, refused}
 use Rattle.sw_run.specs.Laws.{IsLost, LacksMemory, IsRefusedUnread, OneAnswer}
 use Rattle.sw_run.specs.declared.told.Refusal.{Refusal}

@@ -1,5 +1,5 @@
 -- What errors and answers of parts are told as, by the rows of the table of causes.
-use Rattle.std.specs.Prelude.{◌≡◌, ◌⊎◌, ℕ, ◌++◌, ◌<◌, ◌≤◌, ◌^◌, true, false, List, [], length, Option, Some, IfSome, IfErr, Result, Ok, Err, IsErrAnd}
+use Rattle.std.specs.Prelude.{◌≡◌, ◌⊎◌, ℕ, ◌++◌, true, false, List, [], length, Option, Some, None, IfSome, IfErr, Result, Ok, Err, IsErrAnd}
 use Rattle.std.proofs.Common.{refl, sym, ap, ◌∙◌, subst, inl, inr, append-nil}
 use Rattle.std.proofs.lemmas.Bool.{false≢true}
 use Rattle.sw_meaning.specs.declared.protocol.Protocol.{Protocol}
@@ -16,8 +16,9 @@ use Rattle.sw_protocol.specs.Stratified.{IsText}
 use Rattle.sw_words.specs.declared.commands.Command.{Command}
 use Rattle.sw_words.specs.declared.commands.Command.TheVariants.{Synth, Certify, Space, Print, Check, Drill}
 use Rattle.sw_words.specs.declared.commands.Options.{Options}
-use Rattle.sw_run.specs.Words.{is_plain, is_check, is_served}
-use Rattle.sw_run.specs.Ending.{Change, Answer, Faults, Misreads, Reads, Searches, NamesBy, IsBreadthFault, Prints, Sizes, IsInput, IsSpelled, IsUntouched, Allowed, AllowedCheck, refused, answer_of, told_answer}
+use Rattle.sw_run.specs.Words.{has_one_worker, is_check, is_served}
+use Rattle.sw_run.specs.Ending.{Change, Answer, Faults, Misreads, Reads, Searches, Names, NamesFault, NamesBy, Prints, Sizes, IsInput, IsSpelled, IsUntouched, Allowed, AllowedCheck, refused, answer_of, told_answer}
+use Rattle.sw_run.specs.Giving.{Gives, GivesNone}
 use Rattle.sw_run.specs.Refusals.{input_refusal, space_refusal}
 use Rattle.sw_meaning.specs.Classes.{atoms, classes_of}
 use Rattle.sw_enumerate.specs.Spaces.{Made, IsSpaceOf, classes_in}
@@ -27,20 +28,13 @@ use Rattle.sw_space.specs.Lines.{numbers_text, sizes_of}
 use Rattle.sw_space.specs.Named.{HasSpace, answer_of as space_answer}
 use Rattle.sw_run.specs.declared.report.Report.{Report}
 use Rattle.sw_run.specs.declared.told.Refusal.{Refusal}
-use Rattle.sw_run.specs.declared.told.Refusal.TheVariants.{NotStratified, BreadthFaulty, Unbuilt, NoMemory}
+use Rattle.sw_run.specs.declared.told.Refusal.TheVariants.{NotStratified, Unbuilt, NoMemory}
 use Rattle.sw_meaning.specs.declared.template.Template.{Template}
-use Rattle.sw_meaning.specs.Edges.{IsStratifiedWith}
-use Rattle.sw_template.specs.Edges.{template_edges}
 use Rattle.sw_space.specs.declared.faults.SpaceFault.{SpaceFault}
-use Rattle.sw_space.specs.Named.{Fits, IsWithinLimits}
 use Rattle.sw_search.specs.declared.telling.Told.{Told}
 use Rattle.sw_search.specs.declared.telling.Told.TheVariants as telling
 use Rattle.sw_search.specs.Searches.{IsTold}
-use Rattle.sw_search.specs.Spaces.{IsSearchable}
-use Rattle.sw_template_text.specs.Texts.{IsTemplate}
-use Rattle.sw_template_text.proofs.OneTemplate.{texts_are_templates}
-use Rattle.sw_lists.proofs.Each.{each-weaker}
-use Rattle.sw_meaning.specs.declared.template.Run.{Run}
+use Rattle.sw_search.specs.Spaces.{template_of}
 
 -- ---- the input
 
@@ -96,7 +90,7 @@ pub was_read : (input : Change) (Answers : Protocol → Answer → Type 0) (p : 
 was_read input Answers p r spelled (inl is) = inl (Reads.read p spelled is)
 was_read input Answers p r spelled (inr lacks) = inr (ap answer_of lacks)
 
-pub synth_row : (o : Options) (input : Change) (a : Answer) → is_plain o ≡ true → Reads input (Searches o) a ⊎ (a ≡ refused NoMemory) → Allowed (Some (Synth o)) input a
+pub synth_row : (o : Options) (input : Change) (a : Answer) → has_one_worker o ≡ true → Reads input (Searches o) a ⊎ (a ≡ refused NoMemory) → Allowed (Some (Synth o)) input a
 synth_row o input a plain (inl reads) = Allowed.synth o refl plain reads
 synth_row o input a plain (inr lacks) = Allowed.no_memory lacks
 
@@ -109,7 +103,7 @@ space_row text input a (inl reads) = Allowed.space text refl reads
 space_row text input a (inr lacks) = Allowed.no_memory lacks
 
 -- the sizes of a space that was named, and a fault that was told
-pub sizes_told : (p : Protocol) (text told : List ℕ) (s : Made) → IfSome (space_answer (Ok s)) (HasSpace p text) → IsSpaceOf p.signature s.template s
+pub sizes_told : (p : Protocol) (text told : List ℕ) (s : Made) → IfSome (space_answer (Ok s)) (HasSpace p None text) → IsSpaceOf p.signature s.template s
     → told ≡ numbers_text (length s.atoms) (length s.cubes) (length (classes_in s)) → Sizes text p (record { status = 0; text = told; line = [] })
 sizes_told p text told s has made is =
     let sizes : told ≡ sizes_of p.signature s.template =
@@ -117,7 +111,7 @@ sizes_told p text told s has made is =
     ∙ ap (λ xs. numbers_text (length (atoms p.signature s.template)) (length xs) (length (classes_of s.template.literals xs))) made.cubes_are) in
     Sizes.sizes s.template has (ap (λ t. record { status = 0; text = t; line = [] }) sizes)
 
-pub fault_told : (p : Protocol) (text : List ℕ) (e : NoSpace) (r : Result Report Refusal) → IsErrAnd r (λ x. x ≡ space_refusal e) → IfSome (space_answer (Err e)) (HasSpace p text)
+pub fault_told : (p : Protocol) (text : List ℕ) (e : NoSpace) (r : Result Report Refusal) → IsErrAnd r (λ x. x ≡ space_refusal e) → IfSome (space_answer (Err e)) (HasSpace p None text)
     → Sizes text p (answer_of r) ⊎ (r ≡ Err NoMemory)
 fault_told p text e (Ok x) is has = absurd is
 fault_told p text (no_space.Faulty f) (Err x) is has = inl (Sizes.faulty f has (ap refused is))
@@ -128,53 +122,44 @@ printed_text p text is = ap (λ t. record { status = 0; text = t; line = [] }) i
 
 -- ---- searches
 
--- what a search told, with the template that the options name
-pub told_searches : (o : Options) (p : Protocol) (t : Option Template) (told : Told) → NamesBy o p t → IsTold p t o.conflicts told → Searches o p (told_answer told)
-told_searches o p t (telling.Report status text) by is = Searches.report (record { template = t; named = by; report = is.0; within = is.1; line = refl })
-told_searches o p t (telling.Stopped line) by is = Searches.stopped (record { template = t; named = by; ended = is; is = refl })
+-- what a search told, with the templates that the options name
+pub told_searches : (o : Options) (p : Protocol) (t u : Option Template) (told : Told) → NamesBy o p t u → IsTold p t u o.conflicts told → Searches o p (told_answer told)
+told_searches o p t u (telling.Report status text) by is = Searches.report (record { breadth = t; finish = u; named = by; report = is.0; within = is.1; line = refl })
+told_searches o p t u (telling.Stopped line) by is = Searches.stopped (record { breadth = t; finish = u; named = by; ended = is; is = refl })
 
--- a fault of the template, passed on
-pub breadth_refused : (o : Options) (p : Protocol) (text : List ℕ) (e : Refusal) (r : Result Report Refusal) → o.breadth ≡ Some text → IsErrAnd r (λ x. x ≡ e) → IsBreadthFault p text e
+-- a refusal of a search, passed on
+pub search_refused : (o : Options) (p : Protocol) (e : Refusal) (r : Result Report Refusal) → IsErrAnd r (λ x. x ≡ e) → Searches o p (refused e) ⊎ (e ≡ NoMemory)
     → Searches o p (answer_of r) ⊎ (r ≡ Err NoMemory)
-breadth_refused o p text e (Ok x) named is why = absurd is
-breadth_refused o p text e (Err x) named is (inl why) = inl (Searches.faulty text why.0 named why.1 (ap refused (is ∙ why.2)))
-breadth_refused o p text e (Err x) named is (inr lacks) = inr (ap Err (is ∙ lacks))
+search_refused o p e (Ok x) is why = absurd is
+search_refused o p e (Err x) is (inl why) = inl (subst (λ y. Searches o p (refused y)) (sym is) why)
+search_refused o p e (Err x) is (inr lacks) = inr (ap Err (is ∙ lacks))
 
 -- an answer that is what was told
-pub answer_searches : (o : Options) (p : Protocol) (t : Option Template) (told : Told) (r : Result Report Refusal) → NamesBy o p t → IsTold p t o.conflicts told → answer_of r ≡ told_answer told
-    → Searches o p (answer_of r) ⊎ (r ≡ Err NoMemory)
-answer_searches o p t told r by is same = inl (subst (Searches o p) (sym same) (told_searches o p t told by is))
+pub answer_searches : (o : Options) (p : Protocol) (first last : Option Made) (told : Told) (r : Result Report Refusal) → Gives o.breadth p None first → Gives o.finish p (template_of first) last
+    → IsTold p (template_of first) (template_of last) o.conflicts told → answer_of r ≡ told_answer told → Searches o p (answer_of r) ⊎ (r ≡ Err NoMemory)
+answer_searches o p first last told r breadth finish is same =
+    inl (subst (Searches o p) (sym same) (told_searches o p (template_of first) (template_of last) told (record { breadth = breadth.named; finish = finish.named }) is))
 
-pub breadth_fault : (p : Protocol) (text : List ℕ) (e : NoSpace) (f : SpaceFault) → e ≡ no_space.Faulty f → IfSome (space_answer (Err e)) (HasSpace p text) → IsBreadthFault p text (BreadthFaulty f)
-breadth_fault p text (no_space.Faulty g) f is has = let same : g ≡ f = cc in inl (f, subst (λ x. HasSpace p text (Err x)) same has, refl)
-breadth_fault p text no_space.Memory f is has = absurd cc
+-- the space of the text that an option gives
+pub given_space : (given : Option (List ℕ)) (p : Protocol) (beside : Option Template) (text : List ℕ) (s : Made) → given ≡ Some text → HasSpace p beside text (Ok s.template) → IsSpaceOf p.signature s.template s
+    → Gives given p beside (Some s)
+given_space given p beside text s is has made = record { named = Names.named text s.template is has refl; made = made }
 
--- the space that was named can be searched
-module _ (p : Protocol) (s : Made) (made : IsSpaceOf p.signature s.template s) where
-  fits_searchable : IsTemplate p.signature s.template → (r : Result Template SpaceFault) → r ≡ Ok s.template → Fits p s.template r → IsSearchable p s
-  fits_searchable is r ok (Fits.cycle sort first bad) = absurd cc
-  fits_searchable is r ok (Fits.over e f stratified refuses which bad) = absurd cc
-  fits_searchable is r ok (Fits.within stratified limits same) = record {
-    made = made;
-    over = each-weaker (λ (run : Run). (0 < run.count) × (run.sort < length p.signature.sorts)) (λ run. run.sort < length p.signature.sorts) (λ run h. h.1) s.template.prefix is.runs;
-    variables = is.variables;
-    few = subst (λ cubes. length (classes_of s.template.literals cubes) ≤ 2 ^ 32) (sym made.cubes_are) limits.classes;
-    stratified = stratified;
-  }
+-- the same of what is the same
+pub gives_same : (given : Option (List ℕ)) (p : Protocol) (t u : Option Template) (x y : Option Made) → t ≡ u → y ≡ x → Gives given p t x → Gives given p u y
+gives_same given p t u x y beside same gives = subst (λ o. Gives given p o y) beside (subst (Gives given p t) (sym same) gives)
 
-  named_searchable : (text : List ℕ) (r : Result Template SpaceFault) → r ≡ Ok s.template → HasSpace p text r → IsSearchable p s
-  named_searchable text r ok (HasSpace.unread e f has which bad) = absurd cc
-  named_searchable text r ok (HasSpace.read t has fits) = read_searchable t (texts_are_templates p.signature text t has) fits
-    where
-      read_searchable : (t : Template) → IsTemplate p.signature t → Fits p t r → IsSearchable p s
-      read_searchable t is (Fits.cycle sort first bad) = absurd cc
-      read_searchable t is (Fits.over e f stratified refuses which bad) = absurd cc
-      read_searchable t is (Fits.within stratified limits same) =
-          let one : t ≡ s.template = cc in
-          fits_searchable (subst (IsTemplate p.signature) one is) (Ok s.template) refl (Fits.within (subst (λ u. IsStratifiedWith p (template_edges u)) one stratified) (subst (IsWithinLimits p.signature) one limits) refl)
+-- why that text gives none, passed on
+pub given_none : (given : Option (List ℕ)) (p : Protocol) (beside : Option Template) (text : List ℕ) (e : NoSpace) (r : Result (Option Made) NoSpace) → given ≡ Some text → IsErrAnd r (λ x. x ≡ e)
+    → IfSome (space_answer (Err e)) (HasSpace p beside text) → IfErr r (GivesNone given p beside)
+given_none given p beside text e (Ok s) is passed has = absurd passed
+given_none given p beside text (no_space.Faulty f) (Err x) is passed has = subst (GivesNone given p beside) (sym passed) (text, is, has)
+given_none given p beside text no_space.Memory (Err x) is passed has = subst (GivesNone given p beside) (sym passed) tt
 
-pub space_searchable : (p : Protocol) (text : List ℕ) (s : Made) → HasSpace p text (Ok s.template) → IsSpaceOf p.signature s.template s → IsSearchable p s
-space_searchable p text s has made = named_searchable p s made text (Ok s.template) refl has
+-- the fault of an option's text
+pub fault_named : (given : Option (List ℕ)) (p : Protocol) (beside : Option Template) (e : NoSpace) (f : SpaceFault) → e ≡ no_space.Faulty f → GivesNone given p beside e → NamesFault given p beside f
+fault_named given p beside (no_space.Faulty g) f is fault = let same : g ≡ f = cc in subst (NamesFault given p beside) same fault
+fault_named given p beside no_space.Memory f is fault = absurd cc
 
 -- ---- what the words are told as
 

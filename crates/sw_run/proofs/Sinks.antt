@@ -10,7 +10,7 @@ use Rattle.sw_run.specs.Ending.{Change, Answer, Misreads, Reads, Searches, Print
 use Rattle.sw_report.specs.Words.{word_status}
 use Rattle.sw_run.specs.Laws.{IsTold, AnswerIsTold}
 use Rattle.sw_run.specs.declared.told.Refusal.{Refusal}
-use Rattle.sw_run.specs.declared.told.Refusal.TheVariants.{Usage, TooLong, Faulty, NotStratified, SpaceFaulty, BreadthFaulty, Stopped, Unbuilt, ReadFault, NoMemory}
+use Rattle.sw_run.specs.declared.told.Refusal.TheVariants.{Usage, TooLong, Faulty, NotStratified, SpaceFaulty, BreadthFaulty, FinishFaulty, Stopped, Unbuilt, ReadFault, NoMemory}
 
 -- ---- no answer has the status of a failed write
 
@@ -28,6 +28,7 @@ refusal_is_not_6 (Faulty f at) e = cc
 refusal_is_not_6 (NotStratified name) e = cc
 refusal_is_not_6 (SpaceFaulty f) e = cc
 refusal_is_not_6 (BreadthFaulty f) e = cc
+refusal_is_not_6 (FinishFaulty f) e = cc
 refusal_is_not_6 (Stopped text) e = cc
 refusal_is_not_6 Unbuilt e = cc
 refusal_is_not_6 ReadFault e = cc
@@ -51,7 +52,8 @@ read_is_not_6 input Answers a each (Reads.read p spelled answers) = each p answe
 search_is_not_6 : (options : Options) (a : Answer) (p : Protocol) → Searches options p a → IsNot6 a
 search_is_not_6 options a p (Searches.report r) e = word_is_not_6 r.report.word (sym r.report.ends ∙ e)
 search_is_not_6 options a p (Searches.stopped s) e = let four : ◌≡◌ {A = ℕ} 4 6 = sym (ap (λ b. b.status) s.is) ∙ e in cc
-search_is_not_6 options a p (Searches.faulty text f named has is) e = refused_is_not_6 a (BreadthFaulty f) is e
+search_is_not_6 options a p (Searches.breadth_faulty f has is) e = refused_is_not_6 a (BreadthFaulty f) is e
+search_is_not_6 options a p (Searches.finish_faulty t f by has is) e = refused_is_not_6 a (FinishFaulty f) is e
 
 print_is_not_6 : (a : Answer) (p : Protocol) → Prints p a → IsNot6 a
 print_is_not_6 a p is e = let zero : ◌≡◌ {A = ℕ} 0 6 = sym (ap (λ b. b.status) is) ∙ e in cc

@@ -12,11 +12,11 @@ use Rattle.sw_protocol.specs.Stratified.{IsText}
 use Rattle.sw_words.specs.declared.commands.Command.{Command}
 use Rattle.sw_words.specs.declared.commands.Command.TheVariants.{Synth, Space, Print}
 use Rattle.sw_words.specs.declared.commands.Options.{Options}
-use Rattle.sw_run.specs.Words.{is_plain, is_served, asks_check}
+use Rattle.sw_run.specs.Words.{has_one_worker, is_served, asks_check}
 use Rattle.sw_run.specs.Refusals.{input_refusal, refusal_status, refusal_line}
 use Rattle.sw_run.specs.declared.input.TheConstants.{INPUT_LIMIT}
 use Rattle.sw_run.specs.declared.told.Refusal.{Refusal}
-use Rattle.sw_run.specs.declared.told.Refusal.TheVariants.{Usage, TooLong, NotStratified, SpaceFaulty, BreadthFaulty, Unbuilt, ReadFault, NoMemory}
+use Rattle.sw_run.specs.declared.told.Refusal.TheVariants.{Usage, TooLong, NotStratified, SpaceFaulty, BreadthFaulty, FinishFaulty, Unbuilt, ReadFault, NoMemory}
 use Rattle.sw_space.specs.declared.faults.SpaceFault.{SpaceFault}
 use Rattle.sw_space.specs.Lines.{sizes_of}
 use Rattle.sw_space.specs.Named.{HasSpace}
@@ -94,16 +94,26 @@ pub data Reads (input : Change) (Answers : Protocol → Answer → Type 0) (a : 
 
 -- ---- the answers of each command to a protocol
 
--- the options name this template over the protocol, or leave it out
-pub data NamesBy (options : Options) (p : Protocol) (t : Option Template) : Type 0 where
-  without : options.breadth ≡ None → t ≡ None → NamesBy options p t
-  named : (text : List ℕ) (u : Template) → options.breadth ≡ Some text → HasSpace p text (Ok u) → t ≡ Some u → NamesBy options p t
+-- an option's text names this template over the protocol, beside another if there is one; or the option is left out
+pub data Names (given : Option (List ℕ)) (p : Protocol) (beside t : Option Template) : Type 0 where
+  without : given ≡ None → t ≡ None → Names given p beside t
+  named : (text : List ℕ) (u : Template) → given ≡ Some text → HasSpace p beside text (Ok u) → t ≡ Some u → Names given p beside t
 
--- a report on the protocol, with the template that the options name
+-- an option's text has this fault over the protocol, beside a template if there is one
+abbrev pub NamesFault : Option (List ℕ) → Protocol → Option Template → SpaceFault → Type 0
+NamesFault given p beside f = (text : List ℕ) × (given ≡ Some text) × HasSpace p beside text (Err f)
+
+-- the options name these templates over the protocol, or leave them out: `t` to search, and `u` to finish with, which stands beside `t`
+pub record NamesBy (options : Options) (p : Protocol) (t u : Option Template) : Type 0 where
+  pub breadth : Names options.breadth p None t
+  pub finish : Names options.finish p t u
+
+-- a report on the protocol, with the templates that the options name
 pub record Reports (options : Options) (p : Protocol) (a : Answer) : Type 0 where
-  pub template : Option Template
-  pub named : NamesBy options p template
-  pub report : IsReport p template a.status a.text
+  pub breadth : Option Template
+  pub finish : Option Template
+  pub named : NamesBy options p breadth finish
+  pub report : IsReport p breadth finish a.status a.text
   pub within : length a.text ≤ OUTPUT_LIMIT
   pub line : a.line ≡ []
 
@@ -113,20 +123,18 @@ stop line = record { status = 4; text = []; line = line }
 
 -- a query ended the search, or its report is too long
 pub record Stops (options : Options) (p : Protocol) (a : Answer) : Type 0 where
-  pub template : Option Template
-  pub named : NamesBy options p template
-  pub ended : IsStopped p template options.conflicts a.line
+  pub breadth : Option Template
+  pub finish : Option Template
+  pub named : NamesBy options p breadth finish
+  pub ended : IsStopped p breadth finish options.conflicts a.line
   pub is : a ≡ stop a.line
 
--- what a search answers of a protocol
+-- what a search answers of a protocol: a fault of the text to finish with is told where the other text has none
 pub data Searches (options : Options) (p : Protocol) (a : Answer) : Type 0 where
   report : Reports options p a → Searches options p a
   stopped : Stops options p a → Searches options p a
-  faulty : (text : List ℕ) (f : SpaceFault) → options.breadth ≡ Some text → HasSpace p text (Err f) → a ≡ refused (BreadthFaulty f) → Searches options p a
-
--- the refusal tells the fault of the template's text, or memory ran out
-abbrev pub IsBreadthFault : Protocol → List ℕ → Refusal → Type 0
-IsBreadthFault p text r = ((f : SpaceFault) × HasSpace p text (Err f) × (r ≡ BreadthFaulty f)) ⊎ (r ≡ NoMemory)
+  breadth_faulty : (f : SpaceFault) → NamesFault options.breadth p None f → a ≡ refused (BreadthFaulty f) → Searches options p a
+  finish_faulty : (t : Option Template) (f : SpaceFault) → Names options.breadth p None t → NamesFault options.finish p t f → a ≡ refused (FinishFaulty f) → Searches options p a
 
 -- what a search tells, as an answer
 abbrev pub told_answer : Told → Answer
@@ -145,8 +153,8 @@ sized p t = record { status = 0; text = sizes_of p.signature t; line = [] }
 
 -- what `space` answers of a protocol: the numbers of atoms, cubes and classes of the template that the text is, or its first fault
 pub data Sizes (text : List ℕ) (p : Protocol) (a : Answer) : Type 0 where
-  sizes : (t : Template) → HasSpace p text (Ok t) → a ≡ sized p t → Sizes text p a
-  faulty : (f : SpaceFault) → HasSpace p text (Err f) → a ≡ refused (SpaceFaulty f) → Sizes text p a
+  sizes : (t : Template) → HasSpace p None text (Ok t) → a ≡ sized p t → Sizes text p a
+  faulty : (f : SpaceFault) → HasSpace p None text (Err f) → a ≡ refused (SpaceFaulty f) → Sizes text p a
 
 -- ---- the answers to words and input
 
@@ -155,7 +163,7 @@ pub data Sizes (text : List ℕ) (p : Protocol) (a : Answer) : Type 0 where
 pub data Allowed (command : Option Command) (input : Change) (a : Answer) : Type 0 where
   usage : command ≡ None → IsUntouched input → a ≡ refused Usage → Allowed command input a
   unserved : (c : Command) → command ≡ Some c → is_served c ≡ false → IsUntouched input → a ≡ refused Unbuilt → Allowed command input a
-  synth : (options : Options) → command ≡ Some (Synth options) → is_plain options ≡ true → Reads input (Searches options) a → Allowed command input a
+  synth : (options : Options) → command ≡ Some (Synth options) → has_one_worker options ≡ true → Reads input (Searches options) a → Allowed command input a
   space : (text : List ℕ) → command ≡ Some (Space text) → Reads input (Sizes text) a → Allowed command input a
   print : command ≡ Some Print → Reads input Prints a → Allowed command input a
   no_memory : a ≡ refused NoMemory → Allowed command input a
@@ -187,10 +195,14 @@ pub data Writes (o : Change) (bytes : List ℕ) (whole status : ℕ) : Type 0 wh
   all : status ≡ whole → Gained o bytes → Writes o bytes whole status
   part : status ≡ 6 → GainedPart o bytes → Writes o bytes whole status
 
--- the line of the refusal was written, or that of want of memory
-pub data TellsRefusal (refusal : Refusal) (err : Change) (status : ℕ) : Type 0 where
-  its_line : Writes err (refusal_line refusal) (refusal_status refusal) status → TellsRefusal refusal err status
-  no_memory : Writes err (refusal_line NoMemory) (refusal_status NoMemory) status → TellsRefusal refusal err status
+-- the line was written, which has this status, or that of want of memory
+pub data TellsLine (text : List ℕ) (whole : ℕ) (err : Change) (status : ℕ) : Type 0 where
+  its_line : Writes err text whole status → TellsLine text whole err status
+  no_memory : Writes err (refusal_line NoMemory) (refusal_status NoMemory) status → TellsLine text whole err status
+
+-- the same of the line of a refusal
+abbrev pub TellsRefusal : Refusal → Change → ℕ → Type 0
+TellsRefusal refusal = TellsLine (refusal_line refusal) (refusal_status refusal)
 
 -- what is told of a report or a refusal
 abbrev pub answer_of : Result Report Refusal → Answer

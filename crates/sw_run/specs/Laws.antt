@@ -1,19 +1,22 @@
 -- The laws of the endings: the causes of different answers never stand together, and the words and the bytes of the input fix the answer.
 use Rattle.std.specs.Prelude.{◌≡◌, ◌⊎◌, ◌<◌, ◌≤◌, ℕ, true, false, List, [], ◌∷◌, ◌++◌, map, length, Option, Some, None, Ok, Err}
 use Rattle.sw_logic.specs.declared.syntax.Formula.{Formula}
+use Rattle.sw_logic.specs.declared.structure.Structure.{Structure}
+use Rattle.sw_logic.specs.Truth.{AreTrueIn, IsTrueIn}
 use Rattle.sw_meaning.specs.declared.protocol.Protocol.{Protocol}
+use Rattle.sw_meaning.specs.Runs.{Reached}
 use Rattle.sw_meaning.specs.Verdict.{Word}
 use Rattle.sw_protocol.specs.Stratified.{IsText}
 use Rattle.sw_words.specs.declared.commands.Command.{Command}
 use Rattle.sw_words.specs.declared.commands.Command.TheVariants.{Synth, Space, Print}
 use Rattle.sw_words.specs.declared.commands.Options.{Options}
 use Rattle.sw_meaning.specs.declared.template.Template.{Template}
-use Rattle.sw_run.specs.Words.{is_plain, is_served, asks_check}
+use Rattle.sw_run.specs.Words.{has_one_worker, is_served, asks_check}
 use Rattle.sw_edge.specs.Edge.{Rose}
-use Rattle.sw_run.specs.Ending.{Change, Answer, Faults, Reads, Searches, Reports, Stops, NamesBy, Prints, Sizes, IsTooLong, IsUntouched, Allowed, AllowedCheck, Ends, refused, stop, sized}
+use Rattle.sw_run.specs.Ending.{Change, Answer, Faults, Reads, Searches, Reports, Stops, Names, NamesFault, NamesBy, Prints, Sizes, IsTooLong, IsUntouched, Allowed, AllowedCheck, Ends, refused, stop, sized}
 use Rattle.sw_run.specs.declared.input.TheConstants.{INPUT_LIMIT}
 use Rattle.sw_run.specs.declared.told.Refusal.{Refusal}
-use Rattle.sw_run.specs.declared.told.Refusal.TheVariants.{Usage, TooLong, SpaceFaulty, BreadthFaulty, Unbuilt, ReadFault, NoMemory}
+use Rattle.sw_run.specs.declared.told.Refusal.TheVariants.{Usage, TooLong, SpaceFaulty, BreadthFaulty, FinishFaulty, Unbuilt, ReadFault, NoMemory}
 use Rattle.sw_space.specs.declared.faults.SpaceFault.{SpaceFault}
 use Rattle.sw_space.specs.Named.{HasSpace}
 use Rattle.sw_logic.specs.declared.syntax.Signature.{Signature}
@@ -52,7 +55,7 @@ pub record Tells (input : Change) : Type 0 where
 pub record WordsChoose (command : Option Command) (input : Change) (a : Answer) : Type 0 where
   pub usage : command ≡ None → Allowed command input a → IsRefusedUnread Usage input a ⊎ LacksMemory a
   pub unserved : (c : Command) → command ≡ Some c → is_served c ≡ false → Allowed command input a → IsRefusedUnread Unbuilt input a ⊎ LacksMemory a
-  pub synth : (options : Options) → command ≡ Some (Synth options) → is_plain options ≡ true → Allowed command input a → Reads input (Searches options) a ⊎ LacksMemory a
+  pub synth : (options : Options) → command ≡ Some (Synth options) → has_one_worker options ≡ true → Allowed command input a → Reads input (Searches options) a ⊎ LacksMemory a
   pub space : (text : List ℕ) → command ≡ Some (Space text) → Allowed command input a → Reads input (Sizes text) a ⊎ LacksMemory a
   pub print : command ≡ Some Print → Allowed command input a → Reads input Prints a ⊎ LacksMemory a
   pub check_usage : asks_check command ≡ false → AllowedCheck command input a → IsRefusedUnread Usage input a ⊎ LacksMemory a
@@ -68,13 +71,14 @@ pub record InputChooses (input : Change) (bytes : List ℕ) (Answers : Protocol 
 
 -- the options and the protocol choose the row of a search
 pub record SearchChooses (options : Options) (p : Protocol) (a : Answer) : Type 0 where
-  pub told : (t : Option Template) → NamesBy options p t → Searches options p a → Reports options p a ⊎ Stops options p a
-  pub faulty : (text : List ℕ) (f : SpaceFault) → options.breadth ≡ Some text → HasSpace p text (Err f) → Searches options p a → a ≡ refused (BreadthFaulty f)
+  pub told : (t u : Option Template) → NamesBy options p t u → Searches options p a → Reports options p a ⊎ Stops options p a
+  pub breadth_faulty : (f : SpaceFault) → NamesFault options.breadth p None f → Searches options p a → a ≡ refused (BreadthFaulty f)
+  pub finish_faulty : (t : Option Template) (f : SpaceFault) → Names options.breadth p None t → NamesFault options.finish p t f → Searches options p a → a ≡ refused (FinishFaulty f)
 
 -- the template's text and the protocol choose the row of `space`
 pub record SizeChooses (text : List ℕ) (p : Protocol) (a : Answer) : Type 0 where
-  pub sizes : (t : Template) → HasSpace p text (Ok t) → Sizes text p a → a ≡ sized p t
-  pub faulty : (f : SpaceFault) → HasSpace p text (Err f) → Sizes text p a → a ≡ refused (SpaceFaulty f)
+  pub sizes : (t : Template) → HasSpace p None text (Ok t) → Sizes text p a → a ≡ sized p t
+  pub faulty : (f : SpaceFault) → HasSpace p None text (Err f) → Sizes text p a → a ≡ refused (SpaceFaulty f)
 
 abbrev pub RowsExcludeEachOther : Type 0
 RowsExcludeEachOther =
@@ -88,6 +92,18 @@ RowsExcludeEachOther =
 -- the options and the protocol fix a report, each byte of it
 abbrev pub OneReport : Type 0
 OneReport = (options : Options) (p : Protocol) (a b : Answer) → Reports options p a → Reports options p b → a ≡ b
+
+-- what a report with this list, this word and this status promises of a reached structure: every formula of the list is true in it; where
+-- the status is 0, safety is; and where the word has a formula, that is true in it too
+pub record Promises (p : Protocol) (found : List Formula) (word : Word) (status : ℕ) (s : Structure) : Type 0 where
+  pub list : AreTrueIn p.signature s found
+  pub safe : status ≡ 0 → AreTrueIn p.signature s p.safeties
+  pub joined : (f : Formula) → word ≡ Word.safe_with f → IsTrueIn p.signature s f
+
+-- a report keeps its promise in every reached structure
+abbrev pub SafeMeansSafe : Type 0
+SafeMeansSafe =
+    (options : Options) (p : Protocol) (a : Answer) (r : Reports options p a) (s : Structure) → Reached p s → Promises p r.report.list r.report.word a.status s
 
 -- the words and the bytes that the source told fix the answer, but for want of memory, failed reads
 -- and queries that end a search: of `run`, and of `run_check`

@@ -1,4 +1,5 @@
 pub mod Ending
+pub mod Giving
 pub mod Laws
 pub mod Refusals
 pub mod Words

@@ -15,7 +15,7 @@ use Rattle.sw_run.specs.declared.told.Refusal.{Refusal}
 use Rattle.sw_space.specs.declared.faults.NoSpace.{NoSpace}
 use Rattle.sw_space.specs.declared.faults.NoSpace.TheVariants as no_space
 use Rattle.sw_space.specs.Lines.{fault_line as space_line}
-use Rattle.sw_run.specs.declared.told.Refusal.TheVariants.{Usage, TooLong, Faulty, NotStratified, SpaceFaulty, BreadthFaulty, Stopped, Unbuilt, ReadFault, NoMemory}
+use Rattle.sw_run.specs.declared.told.Refusal.TheVariants.{Usage, TooLong, Faulty, NotStratified, SpaceFaulty, BreadthFaulty, FinishFaulty, Stopped, Unbuilt, ReadFault, NoMemory}
 
 abbrev pub words_refusal : WordsError → Refusal
 words_refusal words.Usage = Usage
@@ -38,11 +38,6 @@ input_refusal ProtocolError.Memory = NoMemory
 abbrev pub space_refusal : NoSpace → Refusal
 space_refusal (no_space.Faulty f) = SpaceFaulty f
 space_refusal no_space.Memory = NoMemory
-
--- the same of the template of `--breadth`
-abbrev pub breadth_refusal : NoSpace → Refusal
-breadth_refusal (no_space.Faulty f) = BreadthFaulty f
-breadth_refusal no_space.Memory = NoMemory
 
 abbrev pub rule_text : Rule → List ℕ
 rule_text rule.Twice = codes "Twice"
@@ -72,6 +67,7 @@ refusal_status (Faulty f at) = 3
 refusal_status (NotStratified name) = 3
 refusal_status (SpaceFaulty f) = 3
 refusal_status (BreadthFaulty f) = 3
+refusal_status (FinishFaulty f) = 3
 refusal_status (Stopped text) = 4
 refusal_status Unbuilt = 3
 refusal_status ReadFault = 5
@@ -84,6 +80,7 @@ refusal_line (Faulty f at) = fault_line f at
 refusal_line (NotStratified name) = cycle_line name
 refusal_line (SpaceFaulty f) = space_line (codes "space") f
 refusal_line (BreadthFaulty f) = space_line (codes "breadth") f
+refusal_line (FinishFaulty f) = space_line (codes "finish") f
 refusal_line (Stopped text) = string_bytes text
 refusal_line Unbuilt = line (codes "swiss: Unbuilt")
 refusal_line ReadFault = line (codes "swiss: read fault")

@@ -1,22 +1,25 @@
 // The answer to words and an input: a report, or the first refusal in order.
 ghost use Rattle.std.specs.Prelude.{◌≡◌, ◌⊎◌, ◌≤◌, [], None, Some, Ok, Err, IfSome, IfOk, IfErr, map, string_bytes};
+ghost use Rattle.std.specs.Option.{option_copied};
 ghost use Rattle.sw_words.specs.Grammar.{command_of};
 ghost use Rattle.sw_meaning.specs.WellFormed.{IsWellFormed};
 ghost use Rattle.sw_meaning.specs.Edges.{IsStratifiedWith};
-ghost use Rattle.sw_space.specs.Named.{HasSpace};
-ghost use Rattle.sw_search.specs.Spaces.{IsSearchable};
-ghost use Rattle.sw_run.specs.Ending.{Allowed, AllowedCheck, Searches, IsBreadthFault, Sizes, change, answer_of, told_answer};
+ghost use Rattle.sw_cover.specs.Laws.{IsOver};
+ghost use Rattle.sw_search.specs.Spaces.{template_of};
+ghost use Rattle.sw_run.specs.Ending.{Allowed, AllowedCheck, Names, Searches, Sizes, change, answer_of, refused, told_answer};
+ghost use Rattle.sw_run.specs.Giving.{Gives, GivesNone};
 
 use crate::input::read_input;
 use crate::report::Report;
 use crate::told::Refusal;
-use crate::words::is_plain;
+use crate::words::has_one_worker;
 use std::alloc::Global;
 use std::sync::Wait;
 use sw_edge::{Gate, Source};
 use sw_enumerate::Space;
+use sw_meaning::Template;
 use sw_protocol::{Protocol, print_protocol};
-use sw_search::{Told, search_bare, search_space};
+use sw_search::{Told, search};
 use sw_space::{NoSpace, sizes_text, space_of};
 use sw_words::{Command, Options, Text, read_words};
 
@@ -30,52 +33,71 @@ fn answer_told(told: Told) -> Result<Report, Refusal>
     }
 }
 
-// The answer to a search without a template.
-fn bare(alloc: Global, options: &Options, protocol: &Protocol) -> Result<Report, Refusal>
-    requires none { options.now.breadth ≡ None }
-    requires some { IfSome options.now.conflicts (λ most. 1 ≤ most) }
+// The space of the template that an option's text names, beside another template; without a text none.
+fn named_space(
+    alloc: Global,
+    given: &Option<Text>,
+    protocol: &Protocol,
+    beside: Option<&Template>,
+) -> Result<Option<Space>, NoSpace>
     requires well_formed { IsWellFormed protocol.now }
-    requires stratified { IsStratifiedWith protocol.now [] }
-    ensures { Searches options.now protocol.now (answer_of result) ⊎ (result ≡ Err Refusal.NoMemory) }
+    requires over { IfSome (option_copied beside) (IsOver protocol.now.signature) }
+    ensures gives { IfOk result (Gives given.now protocol.now (option_copied beside.entry)) }
+    ensures none { IfErr result (GivesNone given.now protocol.now (option_copied beside.entry)) }
 {
-    let told = search_bare(alloc, protocol, options.conflicts)?;
-    answer_told(told)
+    let Some(text) = given else {
+        return Ok(None);
+    };
+    let space = space_of(alloc, text.as_str().as_bytes(), protocol, beside)?;
+    Ok(Some(space))
 }
 
-// The space of the template of this text.
-fn breadth_space(alloc: Global, text: &str, protocol: &Protocol) -> Result<Space, Refusal>
+// The space of the template of `--breadth`.
+fn breadth_space(
+    alloc: Global,
+    options: &Options,
+    protocol: &Protocol,
+) -> Result<Option<Space>, Refusal>
     requires { IsWellFormed protocol.now }
-    ensures named { IfOk result (λ s. HasSpace protocol.now text.now (Ok s.template)) }
-    ensures searchable { IfOk result (λ s. IsSearchable protocol.now s) }
-    ensures faulty { IfErr result (IsBreadthFault protocol.now text.now) }
+    ensures gives { IfOk result (Gives options.now.breadth protocol.now None) }
+    ensures refused { IfErr result (λ e. Searches options.now protocol.now (refused e) ⊎ (e ≡ Refusal.NoMemory)) }
 {
-    match space_of(alloc, text.as_bytes(), protocol) {
+    match named_space(alloc, &options.breadth, protocol, None) {
         Ok(space) => Ok(space),
         Err(NoSpace::Faulty(fault)) => Err(Refusal::BreadthFaulty(fault)),
         Err(NoSpace::Memory) => Err(Refusal::NoMemory),
     }
 }
 
-// The answer to a search with the template of this text.
-fn templated<H: Wait, G: Gate>(
-    rt: &H,
+// The space of the template of `--finish`, beside that of `--breadth`.
+fn finish_space(
     alloc: Global,
     options: &Options,
-    text: &str,
     protocol: &Protocol,
-    gate: &G,
-) -> Result<Report, Refusal>
-    requires named { options.now.breadth ≡ Some text.now }
-    requires some { IfSome options.now.conflicts (λ most. 1 ≤ most) }
+    breadth: Option<&Template>,
+) -> Result<Option<Space>, Refusal>
     requires well_formed { IsWellFormed protocol.now }
-    ensures { Searches options.now protocol.now (answer_of result) ⊎ (result ≡ Err Refusal.NoMemory) }
+    requires named { Names options.now.breadth protocol.now None (option_copied breadth) }
+    ensures gives { IfOk result (Gives options.now.finish protocol.now (option_copied breadth.entry)) }
+    ensures refused { IfErr result (λ e. Searches options.now protocol.now (refused e) ⊎ (e ≡ Refusal.NoMemory)) }
 {
-    let space = breadth_space(alloc, text, protocol)?;
-    let told = search_space(rt, alloc, protocol, &space, options.conflicts, gate)?;
-    answer_told(told)
+    match named_space(alloc, &options.finish, protocol, breadth) {
+        Ok(space) => Ok(space),
+        Err(NoSpace::Faulty(fault)) => Err(Refusal::FinishFaulty(fault)),
+        Err(NoSpace::Memory) => Err(Refusal::NoMemory),
+    }
 }
 
-// The answer to a search of the protocol.
+fn template_of(space: Option<&Space>) -> Option<&Template>
+    ensures { option_copied result ≡ template_of (option_copied space.entry) }
+{
+    match space {
+        Some(space) => Some(space.template()),
+        None => None,
+    }
+}
+
+// The answer to a search of the protocol: the first fault of its templates, or what the search tells.
 fn search_protocol<H: Wait, G: Gate>(
     rt: &H,
     alloc: Global,
@@ -88,15 +110,17 @@ fn search_protocol<H: Wait, G: Gate>(
     requires stratified { IsStratifiedWith protocol.now [] }
     ensures { Searches options.now protocol.now (answer_of result) ⊎ (result ≡ Err Refusal.NoMemory) }
 {
-    match &options.breadth {
-        None => bare(alloc, options, protocol),
-        Some(text) => templated(rt, alloc, options, text.as_str(), protocol, gate),
-    }
+    let breadth = breadth_space(alloc, options, protocol)?;
+    let first = breadth.as_ref();
+    let finish = finish_space(alloc, options, protocol, template_of(first))?;
+    let last = finish.as_ref();
+    let told = search(rt, alloc, protocol, first, last, options.conflicts, gate)?;
+    answer_told(told)
 }
 
 // The answer to a search: what the words alone show not to be served, then what reading meets, then
 // what the search tells.
-fn search<H: Wait, S: Source, G: Gate>(
+fn synth<H: Wait, S: Source, G: Gate>(
     rt: &H,
     alloc: Global,
     options: &Options,
@@ -108,7 +132,7 @@ fn search<H: Wait, S: Source, G: Gate>(
         (change (S.left source.old) (S.left source.new) (S.faults source.old) (S.faults source.new))
         (answer_of result) }
 {
-    if !is_plain(options) {
+    if !has_one_worker(options) {
         return Err(Refusal::Unbuilt);
     }
     let protocol = read_input(alloc, source)?;
@@ -131,7 +155,7 @@ fn size_of(alloc: Global, text: &str, protocol: &Protocol) -> Result<Report, Ref
     requires { IsWellFormed protocol.now }
     ensures { Sizes text.now protocol.now (answer_of result) ⊎ (result ≡ Err Refusal.NoMemory) }
 {
-    let space = space_of(alloc, text.as_bytes(), protocol)?;
+    let space = space_of(alloc, text.as_bytes(), protocol, None)?;
     let sizes = sizes_text(alloc, &space)?;
     Ok(Report {
         status: 0,
@@ -178,7 +202,7 @@ pub fn answer<H: Wait, S: Source, G: Gate>(
 {
     let command = read_words(alloc, words)?;
     match &command {
-        Command::Synth(options) => search(rt, alloc, options, source, gate),
+        Command::Synth(options) => synth(rt, alloc, options, source, gate),
         Command::Certify(_) | Command::Drill(_, _) => Err(Refusal::Unbuilt),
         _ => check(alloc, &command, source),
     }

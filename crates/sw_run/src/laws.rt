@@ -1,5 +1,5 @@
 //! The laws of the endings. Each function does nothing, and its contract is a law.
-ghost use Rattle.sw_run.specs.Laws.{RowsExcludeEachOther, OneReport, OneAnswer, AnswerIsTold, WordsHaveStatuses};
+ghost use Rattle.sw_run.specs.Laws.{RowsExcludeEachOther, OneReport, SafeMeansSafe, OneAnswer, AnswerIsTold, WordsHaveStatuses};
 
 /// No two causes stand together, so each answer comes exactly where its cause does, but for faults
 /// and want of memory.
@@ -10,6 +10,12 @@ pub fn rows_exclude_each_other()
 /// The options and the protocol fix the report, each byte of it.
 pub fn one_report()
     ensures { OneReport }
+{}
+
+/// What a report says is true in every reachable state: its list; safety, where the status is 0; and
+/// the formula of `safe with`.
+pub fn safe_means_safe()
+    ensures { SafeMeansSafe }
 {}
 
 /// The words and the bytes of the input fix the answer, but for want of memory and failed reads.

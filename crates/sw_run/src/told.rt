@@ -1,6 +1,7 @@
 // Refusals, and how a report or a refusal is told.
 ghost use Rattle.std.specs.Prelude.{◌≡◌};
-ghost use Rattle.sw_run.specs.Ending.{answer_of, Ends, Writes, TellsRefusal, IsOrLacksMemory, change};
+ghost use Rattle.sw_run.specs.Ending.{answer_of, Ends, Writes, TellsLine, TellsRefusal, IsOrLacksMemory, change};
+ghost use Rattle.sw_space.specs.Lines.{fault_line as space_line};
 
 use crate::faults::{Fault, cycle_line};
 use crate::report::Report;
@@ -27,6 +28,8 @@ pub enum Refusal {
     SpaceFaulty(SpaceFault),
     /// The template of `--breadth` has this fault.
     BreadthFaulty(SpaceFault),
+    /// The template of `--finish` has this fault.
+    FinishFaulty(SpaceFault),
     /// The line of the query that ended a search, or of a report that is too long.
     Stopped(String),
     Unbuilt,
@@ -133,23 +136,12 @@ fn tell_cycle<E: Sink>(alloc: Global, name: &Name, err: &mut E) -> u8
     }
 }
 
-// Writes the line of a fault of the template of `space`, or that memory ran out before it was made.
-fn tell_space<E: Sink>(alloc: Global, fault: &SpaceFault, err: &mut E) -> u8
-    ensures { TellsRefusal (Refusal.SpaceFaulty fault.now)
+// Writes the line of a fault of the template of this name, or that memory ran out before it was made.
+fn tell_template<E: Sink>(alloc: Global, which: &str, fault: &SpaceFault, err: &mut E) -> u8
+    ensures { TellsLine (space_line which.now fault.now) 3
         (change (E.held err.old) (E.held err.new) (E.faults err.old) (E.faults err.new)) result }
 {
-    match fault.line(alloc, "space") {
-        Ok(line) => write_text(err, line.as_str(), 3),
-        Err(_) => write_text(err, "swiss: out of memory\n", 7),
-    }
-}
-
-// The same of the template of `--breadth`.
-fn tell_breadth<E: Sink>(alloc: Global, fault: &SpaceFault, err: &mut E) -> u8
-    ensures { TellsRefusal (Refusal.BreadthFaulty fault.now)
-        (change (E.held err.old) (E.held err.new) (E.faults err.old) (E.faults err.new)) result }
-{
-    match fault.line(alloc, "breadth") {
+    match fault.line(alloc, which) {
         Ok(line) => write_text(err, line.as_str(), 3),
         Err(_) => write_text(err, "swiss: out of memory\n", 7),
     }
@@ -169,8 +161,9 @@ fn tell_refusal<E: Sink>(alloc: Global, refusal: &Refusal, err: &mut E) -> u8
         Refusal::TooLong => write_text(err, "swiss: input too long\n", 3),
         Refusal::Faulty(fault, at) => tell_fault(alloc, *fault, *at, err),
         Refusal::NotStratified(name) => tell_cycle(alloc, name, err),
-        Refusal::SpaceFaulty(fault) => tell_space(alloc, fault, err),
-        Refusal::BreadthFaulty(fault) => tell_breadth(alloc, fault, err),
+        Refusal::SpaceFaulty(fault) => tell_template(alloc, "space", fault, err),
+        Refusal::BreadthFaulty(fault) => tell_template(alloc, "breadth", fault, err),
+        Refusal::FinishFaulty(fault) => tell_template(alloc, "finish", fault, err),
         Refusal::Stopped(line) => write_text(err, line.as_str(), 4),
         Refusal::Unbuilt => write_text(err, "swiss: Unbuilt\n", 3),
         Refusal::ReadFault => write_text(err, "swiss: read fault\n", 5),

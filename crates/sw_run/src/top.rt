@@ -10,10 +10,10 @@ use std::sync::Wait;
 use std::thread::Threads;
 use sw_edge::{Gate, Sink, Source};
 
-/// What the program ends with: 0 for `safe`, 10 for `open`, 11 for `violated`, 2 for words that
-/// are no command, 3 for an input or a template that is refused or a command that is not served, 4
-/// for a search that a query ended, 5 for a failed read, 6 for a failed write and 7 for want of
-/// memory.
+/// What the program ends with: 0 for `safe` and `safe with`, 10 for `open` and `exhausted`, 11 for
+/// `violated`, 2 for words that are no command, 3 for an input or a template that is refused or a
+/// command that is not served, 4 for a search that a query ended, 5 for a failed read, 6 for a
+/// failed write and 7 for want of memory.
 pub type Status = u8;
 
 /// Runs the command that the words name, which are given without the program's name: reads the

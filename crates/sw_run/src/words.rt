@@ -1,12 +1,12 @@
 // Which searches are served.
 ghost use Rattle.std.specs.Prelude.{◌≡◌};
-ghost use Rattle.sw_run.specs.Words.{is_plain};
+ghost use Rattle.sw_run.specs.Words.{has_one_worker};
 
 use sw_words::Options;
 
 /// Whether a search with these options is served, as far as the words decide it.
-pub fn is_plain(options: &Options) -> bool
-    ensures { result ≡ is_plain options.now }
+pub fn has_one_worker(options: &Options) -> bool
+    ensures { result ≡ has_one_worker options.now }
 {
-    options.workers == 1 && options.finish.is_none()
+    options.workers == 1
 }

@@ -1,15 +1,17 @@
 -- The classes of a space can be searched.
-use Rattle.std.specs.Prelude.{◌≡◌, ℕ, zero, suc, ◌+◌, ◌<◌, ◌≤◌, ◌^◌, true, false, List, [], ◌∷◌, ◌++◌, map, length, Option, Some, IfSome, Contains, slice_get, unwrap_or}
-use Rattle.std.specs.List.{AllByRecursion, flat_map, range_with_len}
-use Rattle.std.proofs.Common.{arith, refl, sym, ap, subst, ◌∙◌, zero-add}
+use Rattle.std.specs.Prelude.{◌≡◌, ℕ, zero, suc, ◌+◌, ◌<◌, ◌≤◌, ◌^◌, Bool, true, false, List, [], ◌∷◌, map, length, Option, IfSome, Contains, slice_get, unwrap_or}
+use Rattle.std.specs.List.{AllByRecursion, range_with_len}
+use Rattle.std.proofs.Common.{arith, sym, ap, subst, ◌∙◌, zero-add}
 use Rattle.std.proofs.lemmas.List.{length-append}
 use Rattle.sw_lists.proofs.Each.{each-append, each-weaker, each-any, each-flat_map, of_contained, each-map}
+use Rattle.sw_logic.specs.declared.syntax.Edge.{Edge}
 use Rattle.sw_logic.specs.declared.syntax.Formula.{Formula}
 use Rattle.sw_logic.specs.declared.syntax.Formula.TheVariants.{Holds, Equal}
 use Rattle.sw_logic.specs.declared.syntax.Signature.{Signature}
 use Rattle.sw_logic.specs.Truth.{binds}
 use Rattle.sw_meaning.specs.declared.protocol.Protocol.{Protocol}
 use Rattle.sw_meaning.specs.declared.template.Template.{Template}
+use Rattle.sw_meaning.specs.Edges.{IsStratifiedWith}
 use Rattle.sw_meaning.specs.Space.{InSpace}
 use Rattle.sw_meaning.specs.Classes.{symbols_of, is_relation, tuples, pairs, terms_of, scope_of, atoms, cubes, classes, parts, classes_of, parts_of, bodies_from, formula_by, formula_of}
 use Rattle.sw_meaning.specs.Laws.{ClassesCover}
@@ -17,15 +19,19 @@ use Rattle.sw_meaning.specs.WellFormed.{IsWellFormed}
 use Rattle.sw_cover.proofs.Covering.{all_classes_cover}
 use Rattle.sw_cover.proofs.Parted.{parts_are_classes}
 use Rattle.sw_cover.proofs.Rising.{IsBody, each_body, weights_of}
-use Rattle.sw_template.specs.Bodies.{Class, AreCubes}
+use Rattle.sw_query_laws.specs.Edges.{AddsAmong}
+use Rattle.sw_template.specs.Bodies.{AreCubes}
 use Rattle.sw_template.specs.Edges.{template_edges}
 use Rattle.sw_template.specs.Prefix.{variable_count}
 use Rattle.sw_template_laws.proofs.Blocks.{formulas_add_these_edges}
 use Rattle.sw_template_laws.proofs.Binding.{formulas_bind_few, holds_flat, equal_flat}
-use Rattle.sw_enumerate.specs.Spaces.{Made, IsSpaceOf, parts_in, classes_in, formula_in}
+use Rattle.sw_enumerate.specs.Spaces.{Made, parts_in, classes_in, formula_in}
+use Rattle.sw_examine.specs.Answers as examine
 use Rattle.sw_breadth.specs.Parts.{all_classes, part_at}
 use Rattle.sw_breadth.specs.States as states
+use Rattle.sw_finish.specs.Finishing.{CanFinish}
 use Rattle.sw_search.specs.Spaces.{IsReadable, IsSearchable}
+use Rattle.sw_search.proofs.Lists.{CanBeListed, among_more}
 
 -- a class is of cubes that there are
 classes_cubes : (most : ℕ) (cs : List (List ℕ)) → AllByRecursion (AreCubes cs) (classes_of most cs)
@@ -48,7 +54,7 @@ flat_atoms sig t =
     (λ sort. each-map P (λ pair. Equal pair.0 pair.1) (pairs (terms_of sig (scope_of t) t.terms sort)) (each-any (λ pair. P (Equal pair.0 pair.1)) (λ pair. equal_flat pair.0 pair.1) (pairs (terms_of sig (scope_of t) t.terms sort))))
     (range_with_len 0 (length sig.sorts))))
 
-module _ (p : Protocol) (s : Made) (ok : IsWellFormed p) (can : IsSearchable p s) where
+module _ (p : Protocol) (extra : List Edge) (s : Made) (ok : IsWellFormed p) (can : IsSearchable p extra s) where
   abbrev t : Template
   t = s.template
 
@@ -91,19 +97,47 @@ module _ (p : Protocol) (s : Made) (ok : IsWellFormed p) (can : IsSearchable p s
     few = bound c h;
   }
 
-  pub can_search : (budget : Option ℕ) → IfSome budget (λ most. 1 ≤ most) → states.CanSearch p t (parts_in s) (IsReadable s) (λ c. formula_in s c.cubes) budget
-  can_search budget some = record {
-    well_formed = ok;
-    are_parts = parts_are;
-    has = λ c h. readable c (among c h);
-    formulas = λ c h. formula_is c;
-    sorted = λ c h. (in_space c (among c h)).closed;
-    extra = template_edges t;
-    stratified = can.stratified;
-    edges = λ c h. formulas_add_these_edges p t (formula_of sig t c) true (in_space c (among c h));
-    denied_edges = λ c h. formulas_add_these_edges p t (formula_of sig t c) false (in_space c (among c h));
-    some = some;
-  }
+  -- what a class's formula, or its negation, adds lies among the edges
+  adds : (positive : Bool) (c : List ℕ) → Contains (classes sig t) c → AddsAmong extra positive (formula_of sig t c)
+  adds positive c h = among_more _ (template_edges t) extra (formulas_add_these_edges p t (formula_of sig t c) positive (in_space c h)) can.edges
+
+  module _ (stratified : IsStratifiedWith p extra) (budget : Option ℕ) (some : IfSome budget (λ most. 1 ≤ most)) where
+    pub can_search : states.CanSearch p t (parts_in s) (IsReadable s) (λ c. formula_in s c.cubes) budget
+    can_search = record {
+      well_formed = ok;
+      are_parts = parts_are;
+      has = λ c h. readable c (among c h);
+      formulas = λ c h. formula_is c;
+      sorted = λ c h. (in_space c (among c h)).closed;
+      extra = extra;
+      stratified = stratified;
+      edges = λ c h. adds true c (among c h);
+      denied_edges = λ c h. adds false c (among c h);
+      some = some;
+    }
+
+    -- a class can be asked about under a list
+    can_ask : (g : List Formula) → CanBeListed p extra g → (c : List ℕ) → Contains (classes sig t) c → examine.CanAsk p g (formula_of sig t c)
+    can_ask g list c h = record {
+      extra = extra;
+      stratified = stratified;
+      list_sorted = list.sentences;
+      list_edges = list.adds;
+      sorted = (in_space c h).closed;
+      edges = adds true c h;
+      denied_edges = adds false c h;
+    }
+
+    pub can_finish : (g : List Formula) → CanBeListed p extra g → CanFinish p t (parts_in s) (IsReadable s) (λ c. formula_in s c.cubes) g budget
+    can_finish g list = record {
+      well_formed = ok;
+      are_parts = parts_are;
+      has = λ c h. readable c (among c h);
+      formulas = λ c h. formula_is c;
+      few = list.narrow;
+      ask = λ c h. can_ask g list c (among c h);
+      some = some;
+    }
 
 -- a part has no more classes than there are
 part_length : (ps : List (List (List ℕ))) (n : ℕ) → length (part_at ps n) ≤ length (all_classes ps)

@@ -1,5 +1,6 @@
 -- What a search tells of a protocol, the templates that there are, and a budget: a report, or what ended it.
 use Rattle.std.specs.Prelude.{Contains, ◌≡◌, ℕ, ◌<◌, ◌≤◌, List, [], length, Option, Some, None, slice_get, string_bytes}
+use Rattle.std.specs.List.{AllByRecursion}
 use Rattle.sw_logic.specs.declared.syntax.Signature.{Signature}
 use Rattle.sw_logic.specs.declared.syntax.Formula.{Formula}
 use Rattle.sw_logic.specs.declared.query.Query.{Query}
@@ -14,8 +15,7 @@ use Rattle.sw_meaning.specs.Report.{report_text}
 use Rattle.sw_truth.specs.declared.instances.Refutation.{Refutation}
 use Rattle.sw_universe.specs.declared.sizes.Size.{Size}
 use Rattle.sw_report.specs.declared.report.TheConstants.{OUTPUT_LIMIT}
-use Rattle.sw_report.specs.declared.report.Word.{Word as Named}
-use Rattle.sw_report.specs.Words.{Query as Asked, word_of, word_status, spent_line, too_large_line, text_over_line}
+use Rattle.sw_report.specs.Words.{Query as Asked, word_status, spent_line, too_large_line, text_over_line}
 use Rattle.sw_verdict.specs.declared.judging.SafetyQuery.{SafetyQuery}
 use Rattle.sw_verdict.specs.declared.judging.SafetyQuery.TheVariants.{Start, Step}
 use Rattle.sw_verdict.specs.Judgement.{IsSpentBy, IsTooLargeBy, Ends}
@@ -122,10 +122,11 @@ named_class (name.Join n class) = Some class
 named_class name.SafetyStart = None
 named_class (name.SafetyStep n) = None
 
--- the query of this name, of a class of the template, under an earned list with which the plain list begins; those asked before it neither decide nor are too large
+-- the query of this name, of a class of the template, under an earned list of classes with which the plain list begins; those asked before it neither decide nor are too large
 pub record InBreadth (p : Protocol) (t : Template) (name : QueryName) (Known : Query → Type 0) : Type 0 where
   pub list : List (List ℕ)
   pub on_the_way : (h : List (List ℕ)) → PlainList p t h → BeginsWith list h
+  pub listed : AllByRecursion (Contains (classes p.signature t)) list
   pub earned : Earned p (Some t) (formulas_of p t list)
   pub class : Class
   pub among : Contains (classes p.signature t) class.cubes

@@ -29,12 +29,13 @@ pub record IsSearchable (p : Protocol) (extra : List Edge) (s : Made) : Type 0 w
   pub edges : AreAmong (template_edges s.template) extra
 
 -- the spaces can be searched, and with the edges of both the protocol's have ranks
-pub record CanSearch (p : Protocol) (breadth finish : Option Made) : Type 0 where
+pub record CanSearch (p : Protocol) (first last : Option Made) : Type 0 where
   pub extra : List Edge
   pub stratified : IsStratifiedWith p extra
-  pub breadth : IfSome breadth (IsSearchable p extra)
-  pub finish : IfSome finish (IsSearchable p extra)
+  pub breadth : IfSome first (IsSearchable p extra)
+  pub finish : IfSome last (IsSearchable p extra)
 
+-- the template of a space, if there is one
 abbrev pub template_of : Option Made → Option Template
 template_of None = None
 template_of (Some s) = Some s.template

@@ -1,14 +1,15 @@
-//! A search: what is told of a protocol, a template if there is one, and a budget.
+//! A search: what is told of a protocol, the spaces of the templates that there are, and a budget.
 #![tactic(auto)]
 
-mod bare;
+pub mod asking;
 pub mod classes;
+pub mod finishing;
 pub mod laws;
+pub mod listing;
 mod searching;
 pub mod telling;
 
-pub use bare::search_bare;
 pub use classes::Classes;
 pub use laws::one_report;
-pub use searching::{search, search_space};
-pub use telling::{Found, Told};
+pub use searching::search;
+pub use telling::Told;

@@ -1,19 +1,23 @@
 //! What is told of a list: its report, or the line of what ended the search.
-ghost use Rattle.std.specs.Prelude.{◌≡◌, ◌≤◌, IfOk, IfSome};
+ghost use Rattle.std.specs.Prelude.{◌≡◌, None, Some, IfOk};
 ghost use Rattle.std.specs.Option.{option_copied};
 ghost use Rattle.sw_meaning.specs.Report.{class_count};
-ghost use Rattle.sw_report.specs.Words.{asked_of};
-ghost use Rattle.sw_truth.specs.declared.instances.Refutation.{Refutation};
-ghost use Rattle.sw_verdict.specs.Judgement.{CanAsk, Ends, IsSpentBy, IsTooLargeBy};
-ghost use Rattle.sw_search.specs.Searches.{IsList, IsTold, told_safety, HasVerdict};
+ghost use Rattle.sw_meaning.specs.Verdict.{Word as Meant, Verdict};
+ghost use Rattle.sw_report.specs.Words.{word_of};
+ghost use Rattle.sw_verdict.specs.Judgement.{Ends};
+ghost use Rattle.sw_search.specs.Searches.{IsTold, HasVerdict, EndsBy};
+ghost use Rattle.sw_search.specs.Spaces.{template_of};
+ghost use Rattle.sw_search.specs.Phases.{IsFound, ended_of};
 
+use crate::asking::{Ending, safety_line};
+use crate::finishing::{Finished, finish_list};
 use std::alloc::{AllocError, Global};
+use std::sync::Wait;
+use sw_edge::Gate;
+use sw_enumerate::Space;
 use sw_logic::Formula;
 use sw_meaning::{Protocol, Template};
-use sw_report::{
-    Asked, ReportError, Word, report_text, spent_line, status_of, text_over_line, too_large_line,
-};
-use sw_universe::Size;
+use sw_report::{ReportError, Word, report_text, status_of, text_over_line};
 use sw_verdict::{Judged, SafetyQuery, judge_safety};
 
 /// What is told of a search: a report with the status that it ends with, or the line of what ended it.
@@ -23,41 +27,49 @@ pub enum Told {
     Stopped(String),
 }
 
-/// A list with its template, and how many classes that has.
+/// A list that was found, and what it was found with.
 #[derive(Clone, Copy)]
 pub struct Found<'a> {
     pub protocol: &'a Protocol,
-    pub template: Option<&'a Template>,
-    pub classes: u64,
+    pub breadth: Option<&'a Space>,
+    pub finish: Option<&'a Space>,
+    pub budget: Option<u64>,
     pub list: &'a [Formula],
 }
 
-/// The query of safety, as it is told.
-fn asked(protocol: &Protocol, query: SafetyQuery) -> Asked<'_>
-    ensures { asked_of result ≡ told_safety protocol.now query }
-{
-    match query {
-        SafetyQuery::Start => Asked::SafetyStart,
-        SafetyQuery::Step(number) => match protocol.transitions.get(number as usize) {
-            Some(transition) => Asked::SafetyStep(transition),
-            None => Asked::SafetyStart,
-        },
-    }
-}
-
 impl Found<'_> {
+    /// The template of the list.
+    fn template(&self) -> Option<&Template>
+        ensures { option_copied result ≡ template_of (option_copied self.now.breadth) }
+    {
+        match self.breadth {
+            Some(space) => Some(space.template()),
+            None => None,
+        }
+    }
+
+    /// How many classes it has.
+    fn classes(&self) -> u64
+        requires { IsFound self.now.protocol.now (option_copied self.now.breadth) (option_copied self.now.finish) self.now.budget self.now.list.now }
+        ensures { result ≡ class_count self.now.protocol.now.signature (template_of (option_copied self.now.breadth)) }
+    {
+        match self.breadth {
+            Some(space) => space.class_count(),
+            None => 0,
+        }
+    }
+
     /// The report with this word, or that it is too long.
-    fn report(&self, alloc: Global, budget: Option<u64>, word: Word) -> Result<Told, AllocError>
-        requires list { IsList self.now.protocol.now (option_copied self.now.template) self.now.list.now }
-        requires counted { self.now.classes ≡ class_count self.now.protocol.now.signature (option_copied self.now.template) }
-        requires word { HasVerdict self.now.protocol.now self.now.list.now word }
-        ensures { IfOk result (IsTold self.now.protocol.now (option_copied self.now.template) budget) }
+    fn report(&self, alloc: Global, word: Word) -> Result<Told, AllocError>
+        requires found { IsFound self.now.protocol.now (option_copied self.now.breadth) (option_copied self.now.finish) self.now.budget self.now.list.now }
+        requires word { HasVerdict self.now.protocol.now (template_of (option_copied self.now.finish)) self.now.list.now (word_of word) }
+        ensures { IfOk result (IsTold self.now.protocol.now (template_of (option_copied self.now.breadth)) (template_of (option_copied self.now.finish)) self.now.budget) }
     {
         match report_text(
             alloc,
             self.protocol,
-            self.template,
-            self.classes,
+            self.template(),
+            self.classes(),
             self.list,
             word,
         ) {
@@ -73,62 +85,67 @@ impl Found<'_> {
         }
     }
 
-    /// That the budget was spent on a query of safety.
-    fn spent(
-        &self,
-        alloc: Global,
-        budget: Option<u64>,
-        query: SafetyQuery,
-    ) -> Result<Told, AllocError>
-        requires list { IsList self.now.protocol.now (option_copied self.now.template) self.now.list.now }
-        requires spent { (r : Refutation) × Ends self.now.protocol.now self.now.list.now query (λ q. IsSpentBy q budget r) }
-        ensures { IfOk result (IsTold self.now.protocol.now (option_copied self.now.template) budget) }
+    /// That a query of safety ended the search so.
+    fn stopped(&self, alloc: Global, query: SafetyQuery, ending: Ending) -> Result<Told, AllocError>
+        requires found { IsFound self.now.protocol.now (option_copied self.now.breadth) (option_copied self.now.finish) self.now.budget self.now.list.now }
+        requires ended { Ends self.now.protocol.now self.now.list.now query (EndsBy self.now.budget (ended_of ending)) }
+        ensures { IfOk result (IsTold self.now.protocol.now (template_of (option_copied self.now.breadth)) (template_of (option_copied self.now.finish)) self.now.budget) }
     {
-        let line = spent_line(
-            alloc,
-            &self.protocol.signature,
-            asked(self.protocol, query),
-            budget.unwrap_or(0),
-        )?;
+        let line = safety_line(alloc, self.protocol, query, ending)?;
         Ok(Told::Stopped(line))
     }
 
-    /// That a query of safety is too large.
-    fn too_large(
+    /// Goes through the classes of the space, and tells what they show.
+    fn finished<H: Wait, G: Gate>(
         &self,
+        rt: &H,
         alloc: Global,
-        budget: Option<u64>,
-        query: SafetyQuery,
-        size: Size,
+        space: &Space,
+        gate: &G,
     ) -> Result<Told, AllocError>
-        requires list { IsList self.now.protocol.now (option_copied self.now.template) self.now.list.now }
-        requires large { Ends self.now.protocol.now self.now.list.now query (λ q. IsTooLargeBy q size) }
-        ensures { IfOk result (IsTold self.now.protocol.now (option_copied self.now.template) budget) }
+        requires found { IsFound self.now.protocol.now (option_copied self.now.breadth) (option_copied self.now.finish) self.now.budget self.now.list.now }
+        requires space { option_copied self.now.finish ≡ Some space.now }
+        requires open_ { Verdict self.now.protocol.now None self.now.list.now Meant.unsettled }
+        ensures { IfOk result (IsTold self.now.protocol.now (template_of (option_copied self.now.breadth)) (template_of (option_copied self.now.finish)) self.now.budget) }
     {
-        let line = too_large_line(
-            alloc,
-            &self.protocol.signature,
-            asked(self.protocol, query),
-            size.terms,
-            size.instances,
-        )?;
-        Ok(Told::Stopped(line))
+        match finish_list(rt, alloc, self, space, gate)? {
+            Finished::Joined(formula) => self.report(alloc, Word::SafeWith(&formula)),
+            Finished::Exhausted => self.report(alloc, Word::Exhausted),
+            Finished::Stopped(line) => Ok(Told::Stopped(line)),
+        }
+    }
+
+    /// Tells of a list that leaves safety open.
+    fn opened<H: Wait, G: Gate>(&self, rt: &H, alloc: Global, gate: &G) -> Result<Told, AllocError>
+        requires found { IsFound self.now.protocol.now (option_copied self.now.breadth) (option_copied self.now.finish) self.now.budget self.now.list.now }
+        requires open_ { Verdict self.now.protocol.now None self.now.list.now Meant.unsettled }
+        ensures { IfOk result (IsTold self.now.protocol.now (template_of (option_copied self.now.breadth)) (template_of (option_copied self.now.finish)) self.now.budget) }
+    {
+        match self.finish {
+            Some(space) => self.finished(rt, alloc, space, gate),
+            None => self.report(alloc, Word::Open),
+        }
     }
 
     /// Asks whether the list shows safety, and tells the report with the word, or what ended that.
-    pub fn tell(&self, alloc: Global, budget: Option<u64>) -> Result<Told, AllocError>
-        requires list { IsList self.now.protocol.now (option_copied self.now.template) self.now.list.now }
-        requires counted { self.now.classes ≡ class_count self.now.protocol.now.signature (option_copied self.now.template) }
-        requires ask { CanAsk self.now.protocol.now self.now.list.now }
-        requires some { IfSome budget (λ most. 1 ≤ most) }
-        ensures { IfOk result (IsTold self.now.protocol.now (option_copied self.now.template) budget) }
+    pub fn tell<H: Wait, G: Gate>(
+        &self,
+        rt: &H,
+        alloc: Global,
+        gate: &G,
+    ) -> Result<Told, AllocError>
+        requires found { IsFound self.now.protocol.now (option_copied self.now.breadth) (option_copied self.now.finish) self.now.budget self.now.list.now }
+        ensures { IfOk result (IsTold self.now.protocol.now (template_of (option_copied self.now.breadth)) (template_of (option_copied self.now.finish)) self.now.budget) }
     {
-        match judge_safety(alloc, self.protocol, self.list, budget)? {
-            Judged::Violated => self.report(alloc, budget, Word::Violated),
-            Judged::Safe => self.report(alloc, budget, Word::Safe),
-            Judged::Open => self.report(alloc, budget, Word::Open),
-            Judged::Spent(query, _) => self.spent(alloc, budget, query),
-            Judged::TooLarge(query, size) => self.too_large(alloc, budget, query, size),
+        match judge_safety(alloc, self.protocol, self.list, self.budget)? {
+            Judged::Violated => self.report(alloc, Word::Violated),
+            Judged::Safe => self.report(alloc, Word::Safe),
+            Judged::Open => self.opened(rt, alloc, gate),
+            Judged::Spent(query, _) => {
+                let most = self.budget.unwrap_or(0);
+                self.stopped(alloc, query, Ending::Spent(most))
+            }
+            Judged::TooLarge(query, size) => self.stopped(alloc, query, Ending::TooLarge(size)),
         }
     }
 }

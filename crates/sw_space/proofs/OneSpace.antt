@@ -12,7 +12,6 @@ use Rattle.sw_meaning.specs.Edges.{protocol_edges, IsStratifiedWith}
 use Rattle.sw_meaning.specs.ProtocolText.{sort_text}
 use Rattle.sw_protocol.proofs.OneReading.{same_first}
 use Rattle.sw_template.specs.Limits.{IsOver}
-use Rattle.sw_template.specs.Edges.{template_edges}
 use Rattle.sw_template_text.specs.declared.errors.TemplateError.{TemplateError}
 use Rattle.sw_template_text.specs.Texts.{}
 use Rattle.sw_template_text.proofs.OneTemplate.{one_template}
@@ -22,7 +21,7 @@ use Rattle.sw_space.specs.declared.faults.SpaceFault.{SpaceFault}
 use Rattle.sw_space.specs.declared.faults.SpaceFault.TheVariants as fault
 use Rattle.sw_space.specs.declared.faults.NoSpace.{NoSpace}
 use Rattle.sw_space.specs.declared.faults.NoSpace.TheVariants.{Faulty, Memory}
-use Rattle.sw_space.specs.Named.{read_fault, size_fault, IsWithinLimits, Fits, HasSpace, OneSpace}
+use Rattle.sw_space.specs.Named.{read_fault, size_fault, IsWithinLimits, edges_with, Fits, HasSpace, OneSpace}
 
 -- ---- cycles
 
@@ -78,16 +77,16 @@ module _ (sig : Signature) (t : Template) where
 
 -- ---- a template over a protocol
 
-module _ (p : Protocol) (t : Template) where
-  one_fit : (r s : Result Template SpaceFault) → Fits p t r → Fits p t s → r ≡ s
+module _ (p : Protocol) (o : Option Template) (t : Template) where
+  one_fit : (r s : Result Template SpaceFault) → Fits p o t r → Fits p o t s → r ≡ s
   one_fit r s (Fits.cycle a x e) (Fits.cycle b y f) =
-      e ∙ (ap (λ n. Err (fault.NotStratified (sort_text p.signature n))) (same_first (protocol_edges p ++ template_edges t) a b x y) ∙ sym f)
-  one_fit r s (Fits.cycle a x e) (Fits.over d g strata over is f) = absurd (no_cycle p (template_edges t) a strata x)
-  one_fit r s (Fits.cycle a x e) (Fits.within strata w f) = absurd (no_cycle p (template_edges t) a strata x)
-  one_fit r s (Fits.over d g strata over is e) (Fits.cycle a x f) = absurd (no_cycle p (template_edges t) a strata x)
+      e ∙ (ap (λ n. Err (fault.NotStratified (sort_text p.signature n))) (same_first (protocol_edges p ++ edges_with o t) a b x y) ∙ sym f)
+  one_fit r s (Fits.cycle a x e) (Fits.over d g strata over is f) = absurd (no_cycle p (edges_with o t) a strata x)
+  one_fit r s (Fits.cycle a x e) (Fits.within strata w f) = absurd (no_cycle p (edges_with o t) a strata x)
+  one_fit r s (Fits.over d g strata over is e) (Fits.cycle a x f) = absurd (no_cycle p (edges_with o t) a strata x)
   one_fit r s (Fits.over d g strata over is e) (Fits.over c h other more at f) = e ∙ (ap Err (one_size p.signature t d c g h over more is at) ∙ sym f)
   one_fit r s (Fits.over d g strata over is e) (Fits.within other w f) = absurd (not_within p.signature t d g over is w)
-  one_fit r s (Fits.within strata w e) (Fits.cycle a x f) = absurd (no_cycle p (template_edges t) a strata x)
+  one_fit r s (Fits.within strata w e) (Fits.cycle a x f) = absurd (no_cycle p (edges_with o t) a strata x)
   one_fit r s (Fits.within strata w e) (Fits.over d g other over is f) = absurd (not_within p.signature t d g over is w)
   one_fit r s (Fits.within strata w e) (Fits.within other v f) = e ∙ sym f
 
@@ -102,21 +101,21 @@ same_template t u h = cc
 apart : (t : Template) (e : TemplateError) → ◌≡◌ {A = Result Template TemplateError} (Ok t) (Err e) → ⊥
 apart t e h = cc
 
-module _ (p : Protocol) (text : List ℕ) where
-  one_answer : (r s : Result Template SpaceFault) → HasSpace p text r → HasSpace p text s → r ≡ s
+module _ (p : Protocol) (o : Option Template) (text : List ℕ) where
+  one_answer : (r s : Result Template SpaceFault) → HasSpace p o text r → HasSpace p o text s → r ≡ s
   one_answer r s (HasSpace.unread e f has is x) (HasSpace.unread d g other at y) =
       x ∙ (ap Err (same_fault (read_fault e) (read_fault d) f g (ap read_fault (same_error e d (one_template p.signature text (Err e) (Err d) has other))) is at) ∙ sym y)
   one_answer r s (HasSpace.unread e f has is x) (HasSpace.read t other fits) = absurd (apart t e (one_template p.signature text (Ok t) (Err e) other has))
   one_answer r s (HasSpace.read t has fits) (HasSpace.unread e f other is x) = absurd (apart t e (one_template p.signature text (Ok t) (Err e) has other))
   one_answer r s (HasSpace.read t has fits) (HasSpace.read u other more) =
-      one_fit p t r s fits (subst (λ x. Fits p x s) (same_template u t (one_template p.signature text (Ok u) (Ok t) other has)) more)
+      one_fit p o t r s fits (subst (λ x. Fits p o x s) (same_template u t (one_template p.signature text (Ok u) (Ok t) other has)) more)
 
 pub one_space : OneSpace
-one_space p text r s a b = one_answer p text r s a b
+one_space p o text r s a b = one_answer p o text r s a b
 
 -- ---- the answers of the calls
 
-module _ (p : Protocol) (text : List ℕ) where
-  pub no_other : OneSpace → (o : Option (Result Template SpaceFault)) → IfSome o (HasSpace p text) → (r : Result Template SpaceFault) → HasSpace p text r → IfSome o (λ s. s ≡ r)
+module _ (p : Protocol) (o : Option Template) (text : List ℕ) where
+  pub no_other : OneSpace → (a : Option (Result Template SpaceFault)) → IfSome a (HasSpace p o text) → (r : Result Template SpaceFault) → HasSpace p o text r → IfSome a (λ s. s ≡ r)
   no_other one None has r is = tt
-  no_other one (Some s) has r is = one p text s r has is
+  no_other one (Some s) has r is = one p o text s r has is

@@ -1,5 +1,6 @@
 -- What a template's text has over a protocol: its template, or the first fault in order.
 use Rattle.std.specs.Prelude.{◌≡◌, ℕ, ◌≤◌, ◌^◌, List, ◌++◌, length, Option, Some, None, Result, Ok, Err}
+use Rattle.sw_logic.specs.declared.syntax.Edge.{Edge}
 use Rattle.sw_logic.specs.declared.syntax.Signature.{Signature}
 use Rattle.sw_logic.specs.Strata.{FirstOnCycle}
 use Rattle.sw_meaning.specs.declared.protocol.Protocol.{Protocol}
@@ -39,21 +40,22 @@ pub record IsWithinLimits (sig : Signature) (t : Template) : Type 0 where
   pub cubes : length (cubes sig t) ≤ 1048576
   pub classes : length (classes sig t) ≤ 2 ^ 32
 
--- the template's edges with the protocol's have a cycle, with this the first declared sort on one; or they have none, and a number
--- is over its limit; or neither is so
-pub data Fits (p : Protocol) (t : Template) (r : Result Template SpaceFault) : Type 0 where
-  cycle : (sort : ℕ) → FirstOnCycle (protocol_edges p ++ template_edges t) sort → r ≡ Err (fault.NotStratified (sort_text p.signature sort)) → Fits p t r
-  over : (e : SpaceError) (f : SpaceFault) → IsStratifiedWith p (template_edges t) → RefusesSpace p.signature t e → size_fault e ≡ Faulty f → r ≡ Err f → Fits p t r
-  within : IsStratifiedWith p (template_edges t) → IsWithinLimits p.signature t → r ≡ Ok t → Fits p t r
+-- the edges of a template, after those of the template that stands beside it, if there is one
+abbrev pub edges_with : Option Template → Template → List Edge
+edges_with None t = template_edges t
+edges_with (Some u) t = template_edges u ++ template_edges t
 
--- the first fault of the text by itself, or what its template has over the protocol
-pub data HasSpace (p : Protocol) (text : List ℕ) (r : Result Template SpaceFault) : Type 0 where
-  unread : (e : TemplateError) (f : SpaceFault) → HasTemplate p.signature text (Err e) → read_fault e ≡ Faulty f → r ≡ Err f → HasSpace p text r
-  read : (t : Template) → HasTemplate p.signature text (Ok t) → Fits p t r → HasSpace p text r
+-- beside this template, the edges with the protocol's have a cycle, with this the first declared sort on one; or they have none, and a
+-- number is over its limit; or neither is so
+pub data Fits (p : Protocol) (o : Option Template) (t : Template) (r : Result Template SpaceFault) : Type 0 where
+  cycle : (sort : ℕ) → FirstOnCycle (protocol_edges p ++ edges_with o t) sort → r ≡ Err (fault.NotStratified (sort_text p.signature sort)) → Fits p o t r
+  over : (e : SpaceError) (f : SpaceFault) → IsStratifiedWith p (edges_with o t) → RefusesSpace p.signature t e → size_fault e ≡ Faulty f → r ≡ Err f → Fits p o t r
+  within : IsStratifiedWith p (edges_with o t) → IsWithinLimits p.signature t → r ≡ Ok t → Fits p o t r
 
--- the text names the space of this template
-abbrev pub NamesSpace : Protocol → List ℕ → Template → Type 0
-NamesSpace p text t = HasSpace p text (Ok t)
+-- the first fault of the text by itself, or what its template has over the protocol, beside this template
+pub data HasSpace (p : Protocol) (o : Option Template) (text : List ℕ) (r : Result Template SpaceFault) : Type 0 where
+  unread : (e : TemplateError) (f : SpaceFault) → HasTemplate p.signature text (Err e) → read_fault e ≡ Faulty f → r ≡ Err f → HasSpace p o text r
+  read : (t : Template) → HasTemplate p.signature text (Ok t) → Fits p o t r → HasSpace p o text r
 
 -- what an answer says of the text; want of memory says nothing
 abbrev pub answer_of : Result Made NoSpace → Option (Result Template SpaceFault)
@@ -61,6 +63,6 @@ answer_of (Ok s) = Some (Ok s.template)
 answer_of (Err (Faulty f)) = Some (Err f)
 answer_of (Err Memory) = None
 
--- a text has one answer over a protocol
+-- a text has one answer over a protocol, beside a template or alone
 abbrev pub OneSpace : Type 0
-OneSpace = (p : Protocol) (text : List ℕ) (r s : Result Template SpaceFault) → HasSpace p text r → HasSpace p text s → r ≡ s
+OneSpace = (p : Protocol) (o : Option Template) (text : List ℕ) (r s : Result Template SpaceFault) → HasSpace p o text r → HasSpace p o text s → r ≡ s

@@ -26,8 +26,12 @@ const PIGEONS: &str =
 const FORTY: &str =
     "sort s; immutable constant c0: s; immutable constant c1: s; immutable constant c2: s; immutable constant c3: s; immutable constant c4: s; immutable constant c5: s; immutable constant c6: s; immutable constant c7: s; immutable constant c8: s; immutable constant c9: s; immutable constant c10: s; immutable constant c11: s; immutable constant c12: s; immutable constant c13: s; immutable constant c14: s; immutable constant c15: s; immutable constant c16: s; immutable constant c17: s; immutable constant c18: s; immutable constant c19: s; immutable constant c20: s; immutable constant c21: s; immutable constant c22: s; immutable constant c23: s; immutable constant c24: s; immutable constant c25: s; immutable constant c26: s; immutable constant c27: s; immutable constant c28: s; immutable constant c29: s; immutable constant c30: s; immutable constant c31: s; immutable constant c32: s; immutable constant c33: s; immutable constant c34: s; immutable constant c35: s; immutable constant c36: s; immutable constant c37: s; immutable constant c38: s; immutable constant c39: s; immutable relation r(s, s, s);";
 
+// A flag that a step sets though it may not, and thirteen constants.
+const THIRTEEN: &str =
+    "sort s; immutable constant c0: s; immutable constant c1: s; immutable constant c2: s; immutable constant c3: s; immutable constant c4: s; immutable constant c5: s; immutable constant c6: s; immutable constant c7: s; immutable constant c8: s; immutable constant c9: s; immutable constant c10: s; immutable constant c11: s; immutable constant c12: s; mutable relation x; init !x; transition t modifies x: x'; safety !x;";
+
 // Command lines, texts, and the status and the report that they have.
-static REPORTS: [(&str, &str, u8, &str); 17] = [
+static REPORTS: [(&str, &str, u8, &str); 16] = [
     ("synth|--breadth|literals 2", SWAP, 0, SWAP_REPORT),
     (
         "synth|--workers=1|--breadth=literals\t\n 2",
@@ -48,13 +52,6 @@ static REPORTS: [(&str, &str, u8, &str); 17] = [
         "mutable relation x; mutable relation y; init !x & !y; transition t modifies x: y & x'; safety !x;",
         0,
         "classes 4\ninvariant !y\ninvariant !x\nclosed under single formulas\nverdict safe\n",
-    ),
-    // without a template nothing shows that the step is safe
-    (
-        "synth",
-        "mutable relation x; mutable relation y; init !x & !y; transition t modifies x: y & x'; safety !x;",
-        10,
-        "classes 0\nverdict open\n",
     ),
     // without a start everything is inductive
     (
@@ -137,7 +134,7 @@ const EIGHT_REPORT: &str =
     "classes 696\ninvariant a\ninvariant !b\ninvariant c\ninvariant !d\ninvariant e\ninvariant !f\ninvariant g\ninvariant !h\nclosed under single formulas\nverdict safe\n";
 
 // Command lines and texts that are read and then refused, with the status and this line.
-static REFUSED: [(&str, &str, u8, &str); 10] = [
+static REFUSED: [(&str, &str, u8, &str); 11] = [
     // the template's own faults, then a cycle, then the counts
     (
         "synth|--breadth|literals 7",
@@ -196,10 +193,132 @@ static REFUSED: [(&str, &str, u8, &str); 10] = [
         4,
         "swiss: TooLarge on safety at start: terms 40, instances 7745641\n",
     ),
+    // a formula to finish with: the step's three sentences and its end at 19^6 choices, and 19 + 19^2 + 19^3
+    (
+        "synth|--finish|exists 6 s literals 1",
+        THIRTEEN,
+        4,
+        "swiss: TooLarge on join t of exists _1: s, _2: s, _3: s, _4: s, _5: s, _6: s. !x: terms 19, instances 47053123\n",
+    ),
+];
+
+// A flag that only a set flag sets another, which is then unsafe; and a third that is never set.
+const THIRD: &str =
+    "mutable relation x; mutable relation y; mutable relation z; init !x & !y & !z; transition t modifies x: y & x'; transition u modifies y: (x | z) & y'; safety !x;";
+
+const UNSETTLED: &str =
+    "mutable relation x; mutable relation y; init !x & !y; transition t modifies x: y & x'; safety !x;";
+
+const SET: &str = "mutable relation a; init !a; transition set modifies a: a'; safety !a;";
+
+// Searches with a template to finish with, and the status and the report that they have.
+static FINISHED: [(&str, &str, u8, &str); 9] = [
+    // the formula that joins shows safety, which is open without it
+    (
+        "synth|--finish|literals 1",
+        UNSETTLED,
+        0,
+        "classes 0\nverdict safe with !y\n",
+    ),
+    ("synth", UNSETTLED, 10, "classes 0\nverdict open\n"),
+    // no formula joins
+    (
+        "synth|--finish|literals 1",
+        SET,
+        10,
+        "classes 0\nverdict exhausted\n",
+    ),
+    (
+        "synth|--breadth|literals 1|--finish|literals 1",
+        SET,
+        10,
+        "classes 2\nclosed under single formulas\nverdict exhausted\n",
+    ),
+    // none joins alone, and one does under the list
+    (
+        "synth|--finish|literals 1",
+        THIRD,
+        10,
+        "classes 0\nverdict exhausted\n",
+    ),
+    (
+        "synth|--finish|literals 1|--breadth|literals 1",
+        THIRD,
+        0,
+        "classes 6\ninvariant !z\nclosed under single formulas\nverdict safe with !y\n",
+    ),
+    // no formula is looked for where the list shows safety, or where a start is unsafe
+    (
+        "synth|--breadth|literals 2|--finish|literals 1",
+        SWAP,
+        0,
+        SWAP_REPORT,
+    ),
+    (
+        "synth|--finish|literals 1",
+        "mutable relation a; init a; safety !a;",
+        11,
+        "classes 0\nverdict violated\n",
+    ),
+    // alone the template has no cycle
+    (
+        "synth|--finish|forall 1 b exists 1 a literals 1",
+        "sort a; sort b;",
+        0,
+        "classes 0\nverdict safe\n",
+    ),
+];
+
+// Searches whose template to finish with is refused, or whose other template is refused before it.
+static UNFINISHED: [(&str, &str, u8, &str); 7] = [
+    // the edges of both templates have a cycle
+    (
+        "synth|--breadth|forall 1 a exists 1 b literals 1|--finish|forall 1 b exists 1 a literals 1",
+        "sort a; sort b;",
+        3,
+        "swiss: finish NotStratified a\n",
+    ),
+    (
+        "synth|--breadth|literals 2|--finish|literals 7",
+        SWAP,
+        3,
+        "swiss: finish LiteralsOver 7\n",
+    ),
+    (
+        "synth|--finish|forall 1 edge literals 1",
+        SORTS,
+        3,
+        "swiss: finish UnknownSort at 9\n",
+    ),
+    (
+        "synth|--finish|forall 6 node literals 5",
+        "sort node; immutable relation q(node, node, node, node);",
+        3,
+        "swiss: finish AtomsOver 1311\n",
+    ),
+    // each fault of the other template comes first, and those of the input before both
+    (
+        "synth|--finish|literals2|--breadth|literals 7",
+        SWAP,
+        3,
+        "swiss: breadth LiteralsOver 7\n",
+    ),
+    (
+        "synth|--finish|literals2|--breadth|forall 6 node literals 5",
+        "sort node; immutable relation q(node, node, node, node);",
+        3,
+        "swiss: breadth AtomsOver 1311\n",
+    ),
+    (
+        "synth|--finish|literals2",
+        "sort n; init q;",
+        3,
+        "swiss: Unknown at 13\n",
+    ),
 ];
 
 // Command lines whose answer comes before the source is read: the status and the line.
-static UNREAD: [(&str, u8, &str); 14] = [
+static UNREAD: [(&str, u8, &str); 15] = [
     ("", 2, USAGE),
     ("synth|--workers|0", 2, USAGE),
     ("synth|--finish", 2, USAGE),
@@ -210,11 +329,12 @@ static UNREAD: [(&str, u8, &str); 14] = [
     ("certify|--breadth|literals 2", 3, "swiss: Unbuilt\n"),
     ("check", 3, "swiss: Unbuilt\n"),
     ("drill|6", 3, "swiss: Unbuilt\n"),
-    ("synth|--finish|literals 1", 3, "swiss: Unbuilt\n"),
     ("synth|--workers|2", 3, "swiss: Unbuilt\n"),
-    // and two that do read
+    ("synth|--finish|x|--workers|2", 3, "swiss: Unbuilt\n"),
+    // and three that do read
     ("space|literals 2", 5, "swiss: read fault\n"),
     ("synth", 5, "swiss: read fault\n"),
+    ("synth|--finish|x", 5, "swiss: read fault\n"),
 ];
 
 // The same of the call that needs no threads.
@@ -287,6 +407,22 @@ fn command_lines_and_texts_have_their_answers(rt: HostRuntime) -> Result<(), Fai
     }
     for row in CHECK_UNREAD.iter() {
         check_is_unread(&rt, rt.alloc(), *row)?;
+    }
+    Ok(())
+}
+
+#[test]
+fn safety_is_settled_by_a_formula_that_joins_or_none_does(rt: HostRuntime) -> Result<(), Fail> {
+    for row in FINISHED.iter() {
+        reports(&rt, rt.alloc(), *row)?;
+    }
+    Ok(())
+}
+
+#[test]
+fn the_template_to_finish_with_is_refused_after_the_other(rt: HostRuntime) -> Result<(), Fail> {
+    for row in UNFINISHED.iter() {
+        refuses(&rt, rt.alloc(), *row)?;
     }
     Ok(())
 }

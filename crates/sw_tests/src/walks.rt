@@ -60,7 +60,7 @@ fn space(alloc: Global, text: &str) -> Result<Space, Fail> {
     let Ok(protocol) = read_protocol(alloc, DECLARED.as_bytes()) else {
         return Err(Fail::from("a text of a protocol is wanted"));
     };
-    match space_of(alloc, text.as_bytes(), &protocol) {
+    match space_of(alloc, text.as_bytes(), &protocol, None) {
         Ok(space) => Ok(space),
         Err(_) => Err(Fail::from("a text of a template is wanted")),
     }

@@ -12,9 +12,8 @@ use Rattle.sw_meaning.specs.Edges.{IsStratifiedWith}
 use Rattle.sw_meaning.specs.Verdict.{Word, Verdict}
 use Rattle.sw_queries.specs.Queries.{safety_start_query_of, join_query_of}
 use Rattle.sw_query_laws.specs.Edges.{AddsAmong}
-use Rattle.sw_truth.specs.declared.instances.Refutation.{Refutation}
-use Rattle.sw_universe.specs.declared.sizes.Size.{Size}
-use Rattle.sw_decide.specs.Decision.{HasStructure, HasNoStructure, IsPast, IsSpentOn, size_of_query}
+use Rattle.sw_decide.specs.Decision.{HasStructure, HasNoStructure}
+pub use Rattle.sw_decide.specs.Known.{IsWithin, IsSpentBy, IsTooLargeBy}
 use Rattle.sw_verdict.specs.declared.judging.SafetyQuery.{SafetyQuery}
 use Rattle.sw_verdict.specs.declared.judging.SafetyQuery.TheVariants.{Start, Step}
 use Rattle.sw_verdict.specs.declared.judging.Judged.{Judged}
@@ -30,10 +29,6 @@ pub record CanAsk (p : Protocol) (g : List Formula) : Type 0 where
 
 -- ---- what is known of a query
 
--- it is not too large
-abbrev pub IsWithin : Query → Type 0
-IsWithin q = IsPast (size_of_query q) → ⊥
-
 -- no structure satisfies it
 pub record IsCleared (q : Query) : Type 0 where
   pub none : HasNoStructure q
@@ -43,16 +38,6 @@ pub record IsCleared (q : Query) : Type 0 where
 pub record IsMet (q : Query) : Type 0 where
   pub some : HasStructure q
   pub within : IsWithin q
-
--- the budget was spent on it, and these steps were made
-pub record IsSpentBy (q : Query) (budget : Option ℕ) (r : Refutation) : Type 0 where
-  pub spent : IsSpentOn q budget r
-  pub within : IsWithin q
-
--- it is too large, and this is its size
-pub record IsTooLargeBy (q : Query) (size : Size) : Type 0 where
-  pub is : size ≡ size_of_query q
-  pub past : IsPast (size_of_query q)
 
 module _ (p : Protocol) (g : List Formula) where
   -- a step of this transition from the list and safety to where safety is false

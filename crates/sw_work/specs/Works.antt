@@ -29,6 +29,7 @@ use Rattle.sw_core.specs.Machine.{Search, formula_in, parts_in}
 use Rattle.sw_core.specs.Founded.{Gains}
 use Rattle.sw_walk.specs.Parts.{all_classes, classes_of, class_of, IsClass}
 use Rattle.sw_hand.specs.Hands.{IsHanded}
+use Rattle.sw_hand.specs.Seats.{HasDrawn, HasStopped}
 use Rattle.sw_work.specs.declared.errors.BreadthError.{BreadthError}
 use Rattle.sw_work.specs.declared.errors.BreadthError.TheVariants.{Memory, Spent, TooLarge}
 use Rattle.sw_work.specs.declared.working.Worked.{Worked}
@@ -96,19 +97,6 @@ pub record IsAloneAt (m : Search) (c : ClaimView) (v : LogView) : Type 0 where
   pub claims : c ≡ opened (length (parts_in m)) 0
   pub log : IsAlone v
   pub classes : AllByRecursion (λ (e : Entry). IsClass (parts_in m) e.body) v.seen
-
--- the claim seat before and after: what was drawn, in that order, the end was met, and no reason was written
-pub record HasDrawn (c d : ClaimView) (drawn : List ℕ) : Type 0 where
-  pub gained : d.drawn ≡ c.drawn ++ drawn
-  pub ended : 1 ≤ d.ends
-  pub wrote : d.wrote ≡ c.wrote
-  pub parts : d.parts ≡ c.parts
-
--- a reason was seen, and none written
-pub record HasStopped (c d : ClaimView) (reason : ℕ) : Type 0 where
-  pub some : 1 ≤ reason
-  pub seen : d.seen ≡ reason
-  pub wrote : d.wrote ≡ c.wrote
 
 -- what a worker answers of a round, by its seats before and after. Alone, it makes one round of the plain pass
 abbrev pub IsWorked : Search → Pool → ℕ → ℕ → ClaimView → ClaimView → LogView → LogView → Worked → Type 0

@@ -5,8 +5,8 @@ use Rattle.sw_run.proofs.Rows.{check_allowed, other_is_check, unserved_kind}
 use Rattle.sw_run.proofs.Budgets.{synth_some}
 use Rattle.sw_run.proofs.answer.answer.Goals as goal
 
-pub search-requires : goal.search-requires
-search-requires g c = record { some = synth_some (map string_bytes c.args.words.now) c.in_ok-command.command c.in-Synth.options c.in_ok-command.ensures.command c.in-Synth.is }
+pub synth-requires : goal.synth-requires
+synth-requires g c = record { some = synth_some (map string_bytes c.args.words.now) c.in_ok-command.command c.in-Synth.options c.in_ok-command.ensures.command c.in-Synth.is }
 
 pub returns-in-Certify : goal.returns-in-Certify
 returns-in-Certify g c =
