@@ -5,7 +5,7 @@ use Rattle.sw_claims.specs.declared.rule.ClaimView.{ClaimView}
 use Rattle.sw_claims.specs.ClaimsAnswers.{DrawsNumber, MeetsEnd, SeesReason, Stops}
 use Rattle.sw_claims.specs.ClaimsRule.{opened}
 use Rattle.sw_claims.specs.ClaimsSteps.{IsAlone, looked}
-use Rattle.sw_work.specs.Works.{HasDrawn, HasStopped}
+use Rattle.sw_hand.specs.Seats.{HasDrawn, HasStopped}
 use Rattle.sw_work.specs.Steps.{IsFirst}
 
 -- a seat that draws a number

@@ -22,7 +22,8 @@ use Rattle.sw_work.specs.declared.bench.Bench.{Bench}
 use Rattle.sw_work.specs.declared.drawing.Progress.{Progress}
 use Rattle.sw_work.specs.declared.errors.BreadthError.{BreadthError}
 use Rattle.sw_work.specs.declared.working.Worked.TheVariants.{Done}
-use Rattle.sw_work.specs.Works.{HasDrawn, IsWorked, Settles, BeginsWith, bodies_of, carried, seen_formulas}
+use Rattle.sw_hand.specs.Seats.{HasDrawn}
+use Rattle.sw_work.specs.Works.{IsWorked, Settles, BeginsWith, bodies_of, carried, seen_formulas}
 use Rattle.sw_work.specs.Steps.{FailsRound, HasSettled, IsLone, IsPromised, Looks}
 use Rattle.sw_work.proofs.Seen.{lone_looks}
 

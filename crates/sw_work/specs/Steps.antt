@@ -30,7 +30,8 @@ use Rattle.sw_work.specs.declared.considering.Tried.TheVariants.{Good, Added, Be
 use Rattle.sw_work.specs.declared.drawing.Drew.{Drew}
 use Rattle.sw_work.specs.declared.drawing.Drew.TheVariants.{All, Stopped}
 use Rattle.sw_work.specs.declared.drawing.Progress.{Progress}
-use Rattle.sw_work.specs.Works.{CanSearch, Settles, HasDrawn, HasStopped, IsCause, IsOnTheWay, BeginsWith, carried, bodies_of, seen_formulas}
+use Rattle.sw_hand.specs.Seats.{HasDrawn, HasStopped}
+use Rattle.sw_work.specs.Works.{CanSearch, Settles, IsCause, IsOnTheWay, BeginsWith, carried, bodies_of, seen_formulas}
 
 -- what a task searches
 abbrev pub searched : {S : Type 0} → (S → Template) → Task S → Search

@@ -1,5 +1,5 @@
 //! What a worker has in hand between two steps, and how it takes in what others appended.
-ghost use Rattle.std.specs.Prelude.{◌≡◌, map, IfOk};
+ghost use Rattle.std.specs.Prelude.{◌≡◌, IfOk};
 ghost use mathlib.Core.List.{IsPrefix};
 ghost use Rattle.sw_work.specs.Works.{bodies_of};
 

@@ -29,7 +29,7 @@ impl<'a, B: Candidates + Walk> Desk<'_, 'a, B> {
     ghost use Rattle.sw_core.specs.Machine.{formula_in};
     ghost use Rattle.sw_walk.specs.Parts.{IsClass};
     ghost use Rattle.sw_hand.specs.Hands.{Rejects};
-    ghost use Rattle.sw_work.specs.Works.{Gained, IsCause};
+    ghost use Rattle.sw_work.specs.Works.{Gained};
     ghost use Rattle.sw_work.specs.Steps.{CanWork, Stands, Moves, Leads, Fails, KeepsMore, IsTried, IsGoodNow, IsConsidered, IsCauseAt, searched};
     ghost use Rattle.sw_work.specs.declared.considering.Tried.TheVariants.{Good};
 
