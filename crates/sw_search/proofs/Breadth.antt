@@ -84,7 +84,8 @@ module _ (p : Protocol) (s : Made) (ok : IsWellFormed p) (can : CanSearch p (Som
     earned = subst (Earned p (Some t)) (record_log m whole.outcomes ∙ listed_is) (log_stays_earned m [] steps founded tt)
 
     closed : Closed p (Some t) (formulas_of p t (listed r))
-    closed = subst (Closed p (Some t)) (record_log m whole.outcomes ∙ listed_is) (close_means_closed m [] steps refl (cover p can.extra s ok can.breadth) founded (record_ends m whole.outcomes))
+    closed = subst (Closed p (Some t)) (record_log m whole.outcomes ∙ listed_is)
+        (close_means_closed m [] steps refl (cover p can.extra s ok can.breadth) founded (record_ends m whole.outcomes))
 
     bodies : AllByRecursion (IsClass (parts_in m)) (bodies_of r.entries)
     bodies = each-map (IsClass (parts_in m)) (λ (e : Entry). e.body) r.entries whole.classes
@@ -101,7 +102,8 @@ module _ (p : Protocol) (s : Made) (ok : IsWellFormed p) (can : CanSearch p (Som
 
   -- ---- the query that ended it
   module _ (budget : Option ℕ) (name : QueryName) (list : List Class) where
-    pub spent_in : (r : Refutation) → IsCause m budget (Spent name list r) → (workers ≡ 1 → IsOnTheWay m (Spent name list r)) → InBreadth p t workers name (EndsBy budget (Ended.spent (unwrap_or budget 0)))
+    pub spent_in : (r : Refutation) → IsCause m budget (Spent name list r) → (workers ≡ 1 → IsOnTheWay m (Spent name list r))
+        → InBreadth p t workers name (EndsBy budget (Ended.spent (unwrap_or budget 0)))
     spent_in r c way = record {
       list = classes_of list;
       on_the_way = way;
@@ -114,7 +116,8 @@ module _ (p : Protocol) (s : Made) (ok : IsWellFormed p) (can : CanSearch p (Som
       known = (given_is budget c.met.spent.steps.most c.met.spent.steps.given, (r, c.met));
     }
 
-    pub large_in : (size : Size) → IsCause m budget (TooLarge name list size) → (workers ≡ 1 → IsOnTheWay m (TooLarge name list size)) → InBreadth p t workers name (EndsBy budget (Ended.too_large size))
+    pub large_in : (size : Size) → IsCause m budget (TooLarge name list size) → (workers ≡ 1 → IsOnTheWay m (TooLarge name list size))
+        → InBreadth p t workers name (EndsBy budget (Ended.too_large size))
     large_in size c way = record {
       list = classes_of list;
       on_the_way = way;
@@ -129,7 +132,8 @@ module _ (p : Protocol) (s : Made) (ok : IsWellFormed p) (can : CanSearch p (Som
 
   -- its line
   module _ (budget : Option ℕ) (name : QueryName) (ended : Ended) (b : InBreadth p t workers name (EndsBy budget ended)) where
-    pub stops : (line : List ℕ) → ((c : Class) → named_class name ≡ Some c → line ≡ ended_line p.signature (told_query p name (formula_in s c.cubes)) ended) → (u : Option Template) → IsStopped p (Some t) u workers budget line
+    pub stops : (line : List ℕ) → ((c : Class) → named_class name ≡ Some c → line ≡ ended_line p.signature (told_query p name (formula_in s c.cubes)) ended) → (u : Option Template)
+        → IsStopped p (Some t) u workers budget line
     stops line is u =
         let class : named_class name ≡ Some b.class = asked_class p (formulas_of p t b.list) (formula_of p.signature t b.class.cubes) b.class b.query name b.is_asked in
         let told = told_query p name (formula_of p.signature t b.class.cubes) in

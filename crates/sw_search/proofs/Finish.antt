@@ -1,5 +1,5 @@
 -- What the search for a class that joins shows, and of the query that ended it.
-use Rattle.std.specs.Prelude.{◌≡◌, ℕ, List, [], ◌∷◌, Option, Some, None, Contains, IfSome, unwrap_or}
+use Rattle.std.specs.Prelude.{◌≡◌, ℕ, List, [], Option, Some, None, Contains, IfSome, unwrap_or}
 use Rattle.std.proofs.Common.{refl, sym, ap, subst, ◌∙◌}
 use Rattle.sw_logic.specs.declared.query.Query.{Query}
 use Rattle.sw_logic.specs.declared.structure.Structure.{Structure}
@@ -7,7 +7,7 @@ use Rattle.sw_logic.specs.declared.syntax.Formula.{Formula}
 use Rattle.sw_logic.specs.Truth.{IsTrueIn, truth, world}
 use Rattle.sw_meaning.specs.declared.protocol.Protocol.{Protocol}
 use Rattle.sw_meaning.specs.declared.template.Template.{Template}
-use Rattle.sw_meaning.specs.Classes.{classes, formula_of}
+use Rattle.sw_meaning.specs.Classes.{formula_of}
 use Rattle.sw_meaning.specs.Verdict.{Word, Verdict, NotSafeBy, Joins, Exhausted as NoneInSpace}
 use Rattle.sw_filter.specs.declared.filter.Mode.TheVariants.{Finish}
 use Rattle.sw_template.specs.Bodies.{Class}
@@ -16,9 +16,9 @@ use Rattle.sw_universe.specs.declared.sizes.Size.{Size}
 use Rattle.sw_enumerate.specs.Spaces.{Made, formula_in}
 use Rattle.sw_examine.specs.declared.examining.QueryName.{QueryName}
 use Rattle.sw_core.specs.Machine.{Search, parts_in}
-use Rattle.sw_walk.specs.Parts.{all_classes, IsClass}
+use Rattle.sw_walk.specs.Parts.{all_classes}
 use Rattle.sw_hand.specs.Hands.{search_of}
-use Rattle.sw_join.specs.Joining.{IsAsked, IsJoined}
+use Rattle.sw_join.specs.Joining.{IsAsked}
 use Rattle.sw_seek.specs.Seeking.{IsFirstJoined, NoneJoins, IsCause}
 use Rattle.sw_seek.specs.declared.errors.FinishError.TheVariants.{Spent, TooLarge}
 use Rattle.sw_finishing.specs.declared.finishing.Finished.TheVariants as finishing
@@ -49,7 +49,8 @@ asked_class : (p : Protocol) (g : List Formula) (f : Formula) (class : Class) (q
 asked_class p g f class q name (IsAsked.start e) = refl
 asked_class p g f class q name (IsAsked.join n t i e h k) = refl
 
-module _ (p : Protocol) (first : Option Made) (last : Option Made) (workers : ℕ) (budget : Option ℕ) (g : List Formula) (s : Made) (x : IsFound p first last workers budget g) (is : last ≡ Some s) (unsettled : Verdict p None g Word.unsettled) where
+module _ (p : Protocol) (first last : Option Made) (workers : ℕ) (budget : Option ℕ) (g : List Formula) (s : Made) (x : IsFound p first last workers budget g)
+    (is : last ≡ Some s) (unsettled : Verdict p None g Word.unsettled) where
   abbrev u : Template
   u = s.template
 
@@ -60,11 +61,13 @@ module _ (p : Protocol) (first : Option Made) (last : Option Made) (workers : �
   m = search_of p u Finish workers
 
   -- ---- the word
-  pub joined : (b : Class) (r : Refutation) (rs : List Refutation) → IsFinished m g budget (finishing.Joined b r rs) → HasVerdict p (Some u) workers g (Word.safe_with (formula_in s b.cubes))
+  pub joined : (b : Class) (r : Refutation) (rs : List Refutation) → IsFinished m g budget (finishing.Joined b r rs)
+      → HasVerdict p (Some u) workers g (Word.safe_with (formula_in s b.cubes))
   joined b r rs f =
       let same : formula_of p.signature u b.cubes ≡ formula_in s b.cubes = sym (formula_is p x.can.extra s x.well_formed can b.cubes) in
       subst (λ (f : Formula). HasVerdict p (Some u) workers g (Word.safe_with f)) same (record {
-        verdict = Verdict.safe_with (formula_of p.signature u b.cubes) refl (not_safe p g Word.unsettled refl unsettled) (in_space p x.can.extra s x.well_formed can b.cubes (of_class p u b f.0)) f.1.joins;
+        verdict = Verdict.safe_with (formula_of p.signature u b.cubes) refl (not_safe p g Word.unsettled refl unsettled)
+            (in_space p x.can.extra s x.well_formed can b.cubes (of_class p u b f.0)) f.1.joins;
         first = λ one. (b.cubes, subst (λ (cs : List (List ℕ)). IsFirstJoined p u g cs b.cubes) (flat p.signature u) (f.2 one), refl);
       })
 
@@ -103,8 +106,10 @@ module _ (p : Protocol) (first : Option Made) (last : Option Made) (workers : �
     }
 
 -- its line
-pub stops : (p : Protocol) (first last : Option Made) (workers : ℕ) (budget : Option ℕ) (g : List Formula) (s : Made) (x : IsFound p first last workers budget g) → last ≡ Some s → (name : QueryName) (ended : Ended) (b : InFinish p (template_of first) workers s.template name (EndsBy budget ended)) (line : List ℕ)
-    → ((c : Class) → named_class name ≡ Some c → line ≡ ended_line p.signature (told_query p name (formula_in s c.cubes)) ended) → IsStopped p (template_of first) (Some s.template) workers budget line
+pub stops : (p : Protocol) (first last : Option Made) (workers : ℕ) (budget : Option ℕ) (g : List Formula) (s : Made) (x : IsFound p first last workers budget g)
+    → last ≡ Some s → (name : QueryName) (ended : Ended) (b : InFinish p (template_of first) workers s.template name (EndsBy budget ended)) (line : List ℕ)
+    → ((c : Class) → named_class name ≡ Some c → line ≡ ended_line p.signature (told_query p name (formula_in s c.cubes)) ended)
+    → IsStopped p (template_of first) (Some s.template) workers budget line
 stops p first last workers budget g s x is name ended b line says =
     let can : IsSearchable p x.can.extra s = subst (λ (o : Option Made). IfSome o (IsSearchable p x.can.extra)) is x.can.finish in
     let class : named_class name ≡ Some b.class = asked_class p b.list (formula_of p.signature s.template b.class.cubes) b.class b.query name b.is_asked in

@@ -1,8 +1,9 @@
 -- The classes of a space can be searched.
-use Rattle.std.specs.Prelude.{◌≡◌, ℕ, zero, suc, ◌+◌, ◌<◌, ◌≤◌, ◌^◌, Bool, true, false, List, [], ◌∷◌, map, length, Option, IfSome, Contains, slice_get, unwrap_or}
+use Rattle.std.specs.Prelude.{◌≡◌, ℕ, zero, suc, ◌+◌, ◌*◌, ◌<◌, ◌≤◌, ◌^◌, Bool, true, false, List, [], ◌∷◌, map, length, Option, IfSome, Contains, slice_get, unwrap_or}
 use Rattle.std.specs.List.{AllByRecursion, range_with_len}
 use Rattle.std.proofs.Common.{arith, sym, ap, subst, ◌∙◌, zero-add}
 use Rattle.std.proofs.lemmas.List.{length-append}
+use Rattle.std.proofs.Math.Nat.{mul-le-mul_right}
 use Rattle.sw_lists.proofs.Each.{each-append, each-weaker, each-any, each-flat_map, of_contained, each-map}
 use Rattle.sw_logic.specs.declared.syntax.Edge.{Edge}
 use Rattle.sw_logic.specs.declared.syntax.Formula.{Formula}
@@ -26,6 +27,7 @@ use Rattle.sw_template.specs.Prefix.{variable_count}
 use Rattle.sw_template_laws.proofs.Blocks.{formulas_add_these_edges}
 use Rattle.sw_template_laws.proofs.Binding.{formulas_bind_few, holds_flat, equal_flat}
 use Rattle.sw_enumerate.specs.Spaces.{Made, parts_in, classes_in, formula_in}
+use Rattle.sw_enumerate.proofs.Steps.{parts_count}
 use Rattle.sw_examine.specs.Answers as examine
 use Rattle.sw_walk.specs.Parts.{all_classes, part_at, class_of, IsClass}
 use Rattle.sw_work.specs.Works as works
@@ -156,6 +158,13 @@ part_length : (ps : List (List (List ℕ))) (n : ℕ) → length (part_at ps n) 
 part_length [] n = omega arith
 part_length (part ∷ ps) zero = let e = length-append part (all_classes ps) in omega (arith, e)
 part_length (part ∷ ps) (suc n) = let e = length-append part (all_classes ps) in let rest = part_length ps n in omega (arith, e, rest)
+
+-- a space within the limits has few parts
+pub parts_few : (s : Made) → s.template.literals ≤ 6 → length s.cubes ≤ 1048576 → length (parts_in s) ≤ 8589934592
+parts_few s most few =
+    let count = parts_count s.template.literals s.cubes in
+    let less : s.template.literals * length s.cubes ≤ 6 * length s.cubes = mul-le-mul_right (length s.cubes) most in
+    omega (arith, count, less, few)
 
 pub part_few : (s : Made) (n : ℕ) → length (classes_in s) ≤ 2 ^ 32 → length (part_at (parts_in s) n) ≤ 2 ^ 32
 part_few s n h =

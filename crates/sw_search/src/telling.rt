@@ -118,7 +118,12 @@ impl Found<'_> {
     }
 
     /// Tells of a list that leaves safety open.
-    fn opened<H: Threads + Wait + Sync, G: Gate + Sync>(&self, rt: &H, alloc: Global, gate: &G) -> Result<Told, AllocError>
+    fn opened<H: Threads + Wait + Sync, G: Gate + Sync>(
+        &self,
+        rt: &H,
+        alloc: Global,
+        gate: &G,
+    ) -> Result<Told, AllocError>
         requires found { IsFound self.now.protocol.now (option_copied self.now.breadth) (option_copied self.now.finish) self.now.workers self.now.budget self.now.list.now }
         requires open_ { Verdict self.now.protocol.now None self.now.list.now Meant.unsettled }
         ensures { IfOk result (IsTold self.now.protocol.now (template_of (option_copied self.now.breadth)) (template_of (option_copied self.now.finish)) self.now.workers self.now.budget) }
