@@ -51,11 +51,11 @@ of_space p extra s g can earned =
     }
 
 -- the list of a search, with a template or without one
-pub list_can : (p : Protocol) (first last : Option Made) (budget : Option ℕ) (g : List Formula) (x : IsFound p first last budget g) → CanBeListed p x.can.extra g
-list_can p None last budget g x = subst (CanBeListed p x.can.extra) (sym x.found.plain) (record { sentences = tt; adds = tt; narrow = tt })
-list_can p (Some s) last budget g x = of_space p x.can.extra s g x.can.breadth x.found.earned
+pub list_can : (p : Protocol) (first last : Option Made) (workers : ℕ) (budget : Option ℕ) (g : List Formula) (x : IsFound p first last workers budget g) → CanBeListed p x.can.extra g
+list_can p None last workers budget g x = subst (CanBeListed p x.can.extra) (sym x.found.of_classes) (record { sentences = tt; adds = tt; narrow = tt })
+list_can p (Some s) last workers budget g x = of_space p x.can.extra s g x.can.breadth x.found.earned
 
-pub can_ask : (p : Protocol) (first last : Option Made) (budget : Option ℕ) (g : List Formula) → IsFound p first last budget g → CanAsk p g
-can_ask p first last budget g x =
-    let can = list_can p first last budget g x in
+pub can_ask : (p : Protocol) (first last : Option Made) (workers : ℕ) (budget : Option ℕ) (g : List Formula) → IsFound p first last workers budget g → CanAsk p g
+can_ask p first last workers budget g x =
+    let can = list_can p first last workers budget g x in
     record { well_formed = x.well_formed; sentences = can.sentences; edges = x.can.extra; adds = can.adds; stratified = x.can.stratified }

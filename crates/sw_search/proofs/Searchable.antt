@@ -1,8 +1,9 @@
 -- The classes of a space can be searched.
-use Rattle.std.specs.Prelude.{◌≡◌, ℕ, zero, suc, ◌+◌, ◌<◌, ◌≤◌, ◌^◌, Bool, true, false, List, [], ◌∷◌, map, length, Option, IfSome, Contains, slice_get, unwrap_or}
+use Rattle.std.specs.Prelude.{◌≡◌, ℕ, zero, suc, ◌+◌, ◌*◌, ◌<◌, ◌≤◌, ◌^◌, Bool, true, false, List, [], ◌∷◌, map, length, Option, IfSome, Contains, slice_get, unwrap_or}
 use Rattle.std.specs.List.{AllByRecursion, range_with_len}
 use Rattle.std.proofs.Common.{arith, sym, ap, subst, ◌∙◌, zero-add}
 use Rattle.std.proofs.lemmas.List.{length-append}
+use Rattle.std.proofs.Math.Nat.{mul-le-mul_right}
 use Rattle.sw_lists.proofs.Each.{each-append, each-weaker, each-any, each-flat_map, of_contained, each-map}
 use Rattle.sw_logic.specs.declared.syntax.Edge.{Edge}
 use Rattle.sw_logic.specs.declared.syntax.Formula.{Formula}
@@ -20,16 +21,17 @@ use Rattle.sw_cover.proofs.Covering.{all_classes_cover}
 use Rattle.sw_cover.proofs.Parted.{parts_are_classes}
 use Rattle.sw_cover.proofs.Rising.{IsBody, each_body, weights_of}
 use Rattle.sw_query_laws.specs.Edges.{AddsAmong}
-use Rattle.sw_template.specs.Bodies.{AreCubes}
+use Rattle.sw_template.specs.Bodies.{Class, AreCubes}
 use Rattle.sw_template.specs.Edges.{template_edges}
 use Rattle.sw_template.specs.Prefix.{variable_count}
 use Rattle.sw_template_laws.proofs.Blocks.{formulas_add_these_edges}
 use Rattle.sw_template_laws.proofs.Binding.{formulas_bind_few, holds_flat, equal_flat}
 use Rattle.sw_enumerate.specs.Spaces.{Made, parts_in, classes_in, formula_in}
+use Rattle.sw_enumerate.proofs.Steps.{parts_count}
 use Rattle.sw_examine.specs.Answers as examine
-use Rattle.sw_breadth.specs.Parts.{all_classes, part_at}
-use Rattle.sw_breadth.specs.States as states
-use Rattle.sw_finish.specs.Finishing.{CanFinish}
+use Rattle.sw_walk.specs.Parts.{all_classes, part_at, class_of, IsClass}
+use Rattle.sw_work.specs.Works as works
+use Rattle.sw_seek.specs.Seeking.{CanFinish}
 use Rattle.sw_search.specs.Spaces.{IsReadable, IsSearchable}
 use Rattle.sw_search.proofs.Lists.{CanBeListed, among_more}
 
@@ -54,6 +56,19 @@ flat_atoms sig t =
     (λ sort. each-map P (λ pair. Equal pair.0 pair.1) (pairs (terms_of sig (scope_of t) t.terms sort)) (each-any (λ pair. P (Equal pair.0 pair.1)) (λ pair. equal_flat pair.0 pair.1) (pairs (terms_of sig (scope_of t) t.terms sort))))
     (range_with_len 0 (length sig.sorts))))
 
+-- the classes of the parts of a template are its classes
+pub flat : (sig : Signature) (t : Template) → all_classes (parts sig t) ≡ classes sig t
+flat sig t = parts_are_classes t.literals (cubes sig t)
+
+pub of_class : (p : Protocol) (t : Template) (b : Class) → IsClass (parts p.signature t) b → Contains (classes p.signature t) b.cubes
+of_class p t b c = subst (λ (cs : List (List ℕ)). Contains cs b.cubes) (flat p.signature t) c.among
+
+pub class_of_parts : (s : Made) (b : Class) → IsClass (parts_in s) b → (b.template ≡ 0) × Contains (classes_in s) b.cubes
+class_of_parts s b c = (c.single, subst (λ (cs : List (List ℕ)). Contains cs b.cubes) (parts_are_classes s.template.literals s.cubes) c.among)
+
+pub class_of_classes : (s : Made) (b : Class) → (b.template ≡ 0) × Contains (classes_in s) b.cubes → IsClass (parts_in s) b
+class_of_classes s b c = record { single = c.0; among = subst (λ (cs : List (List ℕ)). Contains cs b.cubes) (sym (parts_are_classes s.template.literals s.cubes)) c.1 }
+
 module _ (p : Protocol) (extra : List Edge) (s : Made) (ok : IsWellFormed p) (can : IsSearchable p extra s) where
   abbrev t : Template
   t = s.template
@@ -73,9 +88,7 @@ module _ (p : Protocol) (extra : List Edge) (s : Made) (ok : IsWellFormed p) (ca
 
   -- a class of the parts is one of the template
   pub among : (c : List ℕ) → Contains (all_classes (parts_in s)) c → Contains (classes sig t) c
-  among c h =
-      let flat : all_classes (parts sig t) ≡ classes sig t = parts_are_classes t.literals (cubes sig t) in
-      subst (λ (cs : List (List ℕ)). Contains cs c) (ap all_classes parts_are ∙ flat) h
+  among c h = subst (λ (cs : List (List ℕ)). Contains cs c) (ap all_classes parts_are ∙ flat sig t) h
 
   pub in_space : (c : List ℕ) → Contains (classes sig t) c → InSpace p t (formula_of sig t c)
   in_space c h = cover.sound c h
@@ -89,7 +102,7 @@ module _ (p : Protocol) (extra : List Edge) (s : Made) (ok : IsWellFormed p) (ca
       let few = can.variables in
       omega (arith, e, few)
 
-  readable : (c : List ℕ) → Contains (classes sig t) c → IsReadable s (states.class_of c)
+  readable : (c : List ℕ) → Contains (classes sig t) c → IsReadable s (class_of c)
   readable c h = record {
     cubes = are_cubes c h;
     flat = subst (AllByRecursion (λ f. binds f ≡ 0)) (sym can.made.atoms_are) (flat_atoms sig t);
@@ -102,13 +115,14 @@ module _ (p : Protocol) (extra : List Edge) (s : Made) (ok : IsWellFormed p) (ca
   adds positive c h = among_more _ (template_edges t) extra (formulas_add_these_edges p t (formula_of sig t c) positive (in_space c h)) can.edges
 
   module _ (stratified : IsStratifiedWith p extra) (budget : Option ℕ) (some : IfSome budget (λ most. 1 ≤ most)) where
-    pub can_search : states.CanSearch p t (parts_in s) (IsReadable s) (λ c. formula_in s c.cubes) budget
+    pub can_search : works.CanSearch p t (parts_in s) (IsReadable s) (λ c. formula_in s c.cubes) budget
     can_search = record {
       well_formed = ok;
       are_parts = parts_are;
       has = λ c h. readable c (among c h);
       formulas = λ c h. formula_is c;
       sorted = λ c h. (in_space c (among c h)).closed;
+      in_space = λ c h. in_space c (among c h);
       extra = extra;
       stratified = stratified;
       edges = λ c h. adds true c (among c h);
@@ -145,8 +159,15 @@ part_length [] n = omega arith
 part_length (part ∷ ps) zero = let e = length-append part (all_classes ps) in omega (arith, e)
 part_length (part ∷ ps) (suc n) = let e = length-append part (all_classes ps) in let rest = part_length ps n in omega (arith, e, rest)
 
+-- a space within the limits has few parts
+pub parts_few : (s : Made) → s.template.literals ≤ 6 → length s.cubes ≤ 1048576 → length (parts_in s) ≤ 8589934592
+parts_few s most few =
+    let count = parts_count s.template.literals s.cubes in
+    let less : s.template.literals * length s.cubes ≤ 6 * length s.cubes = mul-le-mul_right (length s.cubes) most in
+    omega (arith, count, less, few)
+
 pub part_few : (s : Made) (n : ℕ) → length (classes_in s) ≤ 2 ^ 32 → length (part_at (parts_in s) n) ≤ 2 ^ 32
 part_few s n h =
-    let flat : length (all_classes (parts_in s)) ≡ length (classes_in s) = ap length (parts_are_classes s.template.literals s.cubes) in
+    let same : length (all_classes (parts_in s)) ≡ length (classes_in s) = ap length (parts_are_classes s.template.literals s.cubes) in
     let few = part_length (parts_in s) n in
-    omega (arith, flat, few, h)
+    omega (arith, same, few, h)

@@ -1,14 +1,14 @@
-//! A space as the pass over its classes sees it.
+//! A space as workers see it.
 ghost use Rattle.std.specs.Prelude.{◌≡◌, ◌≤◌, ◌^◌, length};
 ghost use Rattle.sw_enumerate.specs.Spaces.{classes_in};
 
 use std::alloc::{AllocError, Global};
 use std::marker::Model;
-use sw_breadth::Walk;
 use sw_enumerate::Space;
 use sw_filter::Candidates;
 use sw_logic::{Formula, Signature, Structure};
 use sw_template::{Body, holds_body};
+use sw_walk::Walk;
 
 /// The classes of a space, of which there are not too many. Contracts see what the space is made of.
 #[derive(Drop)]
@@ -84,5 +84,9 @@ impl<'a> Walk for Classes<'a> {
 
     fn next_of(&self, part: u64, body: &Body) -> Option<Body> {
         self.space.next_of(part, body)
+    }
+
+    fn is_class(&self, body: &Body) -> bool {
+        self.space.is_class(body)
     }
 }

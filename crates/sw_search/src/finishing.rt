@@ -2,8 +2,9 @@
 ghost use Rattle.std.specs.Prelude.{◌≡◌, None, Some, IfOk};
 ghost use Rattle.std.specs.Option.{option_copied};
 ghost use Rattle.sw_meaning.specs.Verdict.{Word, Verdict};
-ghost use Rattle.sw_enumerate.specs.Spaces.{parts_in};
-ghost use Rattle.sw_finish.specs.Finishing.{IsCause};
+ghost use Rattle.sw_filter.specs.declared.filter.Mode.TheVariants.{Finish as FinishMode};
+ghost use Rattle.sw_hand.specs.Hands.{search_of};
+ghost use Rattle.sw_seek.specs.Seeking.{IsCause};
 ghost use Rattle.sw_search.specs.Searches.{InFinish, EndsBy};
 ghost use Rattle.sw_search.specs.Spaces.{template_of};
 ghost use Rattle.sw_search.specs.Phases.{IsFound, IsFinished, ended_of};
@@ -13,14 +14,16 @@ use crate::classes::Classes;
 use crate::telling::Found;
 use std::alloc::{AllocError, Global};
 use std::sync::Wait;
+use std::thread::Threads;
 use sw_edge::Gate;
 use sw_enumerate::Space;
 use sw_examine::QueryName;
-use sw_finish::{FinishError, FinishedOne, finish_one};
+use sw_finishing::{Finished as Outcome, finish};
 use sw_logic::Formula;
+use sw_seek::FinishError;
 
-/// What the last phase shows: the formula of the first class that joins, that none joins, or the line
-/// of the query that ended it.
+/// What the last phase shows: the formula of a class that joins, that none joins, or the line of the
+/// query that ended it.
 #[derive(Drop)]
 pub enum Finished {
     Joined(Formula),
@@ -36,10 +39,10 @@ fn stopped(
     query: &QueryName,
     ending: Ending,
 ) -> Result<Finished, AllocError>
-    requires can { IsFound found.now.protocol.now (option_copied found.now.breadth) (option_copied found.now.finish) found.now.budget found.now.list.now }
+    requires can { IsFound found.now.protocol.now (option_copied found.now.breadth) (option_copied found.now.finish) found.now.workers found.now.budget found.now.list.now }
     requires space { option_copied found.now.finish ≡ Some space.now }
-    requires asked { InFinish found.now.protocol.now (template_of (option_copied found.now.breadth)) space.now.template query.now (EndsBy found.now.budget (ended_of ending)) }
-    ensures { IfOk result (IsFinished found.now.protocol.now (template_of (option_copied found.now.breadth)) space.now.template found.now.budget found.now.list.now) }
+    requires asked { InFinish found.now.protocol.now (template_of (option_copied found.now.breadth)) found.now.workers space.now.template query.now (EndsBy found.now.budget (ended_of ending)) }
+    ensures { IfOk result (IsFinished found.now.protocol.now (template_of (option_copied found.now.breadth)) space.now.template found.now.workers found.now.budget found.now.list.now) }
 {
     let line = class_line(alloc, found.protocol, space, query, ending)?;
     Ok(Finished::Stopped(line))
@@ -51,11 +54,11 @@ fn ended(
     space: &Space,
     error: FinishError,
 ) -> Result<Finished, AllocError>
-    requires can { IsFound found.now.protocol.now (option_copied found.now.breadth) (option_copied found.now.finish) found.now.budget found.now.list.now }
+    requires can { IsFound found.now.protocol.now (option_copied found.now.breadth) (option_copied found.now.finish) found.now.workers found.now.budget found.now.list.now }
     requires space { option_copied found.now.finish ≡ Some space.now }
     requires open_ { Verdict found.now.protocol.now None found.now.list.now Word.unsettled }
-    requires cause { IsCause found.now.protocol.now space.now.template (parts_in space.now) found.now.list.now found.now.budget error }
-    ensures { IfOk result (IsFinished found.now.protocol.now (template_of (option_copied found.now.breadth)) space.now.template found.now.budget found.now.list.now) }
+    requires cause { IsCause (search_of found.now.protocol.now space.now.template FinishMode found.now.workers) found.now.list.now found.now.budget error }
+    ensures { IfOk result (IsFinished found.now.protocol.now (template_of (option_copied found.now.breadth)) space.now.template found.now.workers found.now.budget found.now.list.now) }
 {
     match error {
         FinishError::Memory => Err(AllocError),
@@ -69,31 +72,32 @@ fn ended(
     }
 }
 
-/// Looks for the first class of the space that joins.
-pub fn finish_list<H: Wait, G: Gate>(
+/// Looks for a class of the space that joins; one worker finds the first in order.
+pub fn finish_list<H: Threads + Wait + Sync, G: Gate + Sync>(
     rt: &H,
     alloc: Global,
     found: &Found,
     space: &Space,
     gate: &G,
 ) -> Result<Finished, AllocError>
-    requires can { IsFound found.now.protocol.now (option_copied found.now.breadth) (option_copied found.now.finish) found.now.budget found.now.list.now }
+    requires can { IsFound found.now.protocol.now (option_copied found.now.breadth) (option_copied found.now.finish) found.now.workers found.now.budget found.now.list.now }
     requires space { option_copied found.now.finish ≡ Some space.now }
     requires open_ { Verdict found.now.protocol.now None found.now.list.now Word.unsettled }
-    ensures { IfOk result (IsFinished found.now.protocol.now (template_of (option_copied found.now.breadth)) space.now.template found.now.budget found.now.list.now) }
+    ensures { IfOk result (IsFinished found.now.protocol.now (template_of (option_copied found.now.breadth)) space.now.template found.now.workers found.now.budget found.now.list.now) }
 {
     let classes = Classes::new(space);
-    match finish_one(
+    match finish(
         rt,
         alloc,
         found.protocol,
         &classes,
         found.list,
+        found.workers,
         found.budget,
         gate,
     ) {
         Ok(
-            FinishedOne::Joined {
+            Outcome::Joined {
                 body,
                 start: _,
                 steps: _,
@@ -102,7 +106,7 @@ pub fn finish_list<H: Wait, G: Gate>(
             let formula = space.formula(&body)?;
             Ok(Finished::Joined(formula))
         }
-        Ok(FinishedOne::Exhausted) => Ok(Finished::Exhausted),
+        Ok(Outcome::Exhausted(_)) => Ok(Finished::Exhausted),
         Err(error) => ended(alloc, found, space, error),
     }
 }

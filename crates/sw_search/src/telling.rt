@@ -13,6 +13,7 @@ use crate::asking::{Ending, safety_line};
 use crate::finishing::{Finished, finish_list};
 use std::alloc::{AllocError, Global};
 use std::sync::Wait;
+use std::thread::Threads;
 use sw_edge::Gate;
 use sw_enumerate::Space;
 use sw_logic::Formula;
@@ -33,6 +34,7 @@ pub struct Found<'a> {
     pub protocol: &'a Protocol,
     pub breadth: Option<&'a Space>,
     pub finish: Option<&'a Space>,
+    pub workers: u32,
     pub budget: Option<u64>,
     pub list: &'a [Formula],
 }
@@ -50,7 +52,7 @@ impl Found<'_> {
 
     /// How many classes it has.
     fn classes(&self) -> u64
-        requires { IsFound self.now.protocol.now (option_copied self.now.breadth) (option_copied self.now.finish) self.now.budget self.now.list.now }
+        requires { IsFound self.now.protocol.now (option_copied self.now.breadth) (option_copied self.now.finish) self.now.workers self.now.budget self.now.list.now }
         ensures { result ≡ class_count self.now.protocol.now.signature (template_of (option_copied self.now.breadth)) }
     {
         match self.breadth {
@@ -61,9 +63,9 @@ impl Found<'_> {
 
     /// The report with this word, or that it is too long.
     fn report(&self, alloc: Global, word: Word) -> Result<Told, AllocError>
-        requires found { IsFound self.now.protocol.now (option_copied self.now.breadth) (option_copied self.now.finish) self.now.budget self.now.list.now }
-        requires word { HasVerdict self.now.protocol.now (template_of (option_copied self.now.finish)) self.now.list.now (word_of word) }
-        ensures { IfOk result (IsTold self.now.protocol.now (template_of (option_copied self.now.breadth)) (template_of (option_copied self.now.finish)) self.now.budget) }
+        requires found { IsFound self.now.protocol.now (option_copied self.now.breadth) (option_copied self.now.finish) self.now.workers self.now.budget self.now.list.now }
+        requires word { HasVerdict self.now.protocol.now (template_of (option_copied self.now.finish)) self.now.workers self.now.list.now (word_of word) }
+        ensures { IfOk result (IsTold self.now.protocol.now (template_of (option_copied self.now.breadth)) (template_of (option_copied self.now.finish)) self.now.workers self.now.budget) }
     {
         match report_text(
             alloc,
@@ -87,26 +89,26 @@ impl Found<'_> {
 
     /// That a query of safety ended the search so.
     fn stopped(&self, alloc: Global, query: SafetyQuery, ending: Ending) -> Result<Told, AllocError>
-        requires found { IsFound self.now.protocol.now (option_copied self.now.breadth) (option_copied self.now.finish) self.now.budget self.now.list.now }
+        requires found { IsFound self.now.protocol.now (option_copied self.now.breadth) (option_copied self.now.finish) self.now.workers self.now.budget self.now.list.now }
         requires ended { Ends self.now.protocol.now self.now.list.now query (EndsBy self.now.budget (ended_of ending)) }
-        ensures { IfOk result (IsTold self.now.protocol.now (template_of (option_copied self.now.breadth)) (template_of (option_copied self.now.finish)) self.now.budget) }
+        ensures { IfOk result (IsTold self.now.protocol.now (template_of (option_copied self.now.breadth)) (template_of (option_copied self.now.finish)) self.now.workers self.now.budget) }
     {
         let line = safety_line(alloc, self.protocol, query, ending)?;
         Ok(Told::Stopped(line))
     }
 
     /// Goes through the classes of the space, and tells what they show.
-    fn finished<H: Wait, G: Gate>(
+    fn finished<H: Threads + Wait + Sync, G: Gate + Sync>(
         &self,
         rt: &H,
         alloc: Global,
         space: &Space,
         gate: &G,
     ) -> Result<Told, AllocError>
-        requires found { IsFound self.now.protocol.now (option_copied self.now.breadth) (option_copied self.now.finish) self.now.budget self.now.list.now }
+        requires found { IsFound self.now.protocol.now (option_copied self.now.breadth) (option_copied self.now.finish) self.now.workers self.now.budget self.now.list.now }
         requires space { option_copied self.now.finish ≡ Some space.now }
         requires open_ { Verdict self.now.protocol.now None self.now.list.now Meant.unsettled }
-        ensures { IfOk result (IsTold self.now.protocol.now (template_of (option_copied self.now.breadth)) (template_of (option_copied self.now.finish)) self.now.budget) }
+        ensures { IfOk result (IsTold self.now.protocol.now (template_of (option_copied self.now.breadth)) (template_of (option_copied self.now.finish)) self.now.workers self.now.budget) }
     {
         match finish_list(rt, alloc, self, space, gate)? {
             Finished::Joined(formula) => self.report(alloc, Word::SafeWith(&formula)),
@@ -116,10 +118,15 @@ impl Found<'_> {
     }
 
     /// Tells of a list that leaves safety open.
-    fn opened<H: Wait, G: Gate>(&self, rt: &H, alloc: Global, gate: &G) -> Result<Told, AllocError>
-        requires found { IsFound self.now.protocol.now (option_copied self.now.breadth) (option_copied self.now.finish) self.now.budget self.now.list.now }
+    fn opened<H: Threads + Wait + Sync, G: Gate + Sync>(
+        &self,
+        rt: &H,
+        alloc: Global,
+        gate: &G,
+    ) -> Result<Told, AllocError>
+        requires found { IsFound self.now.protocol.now (option_copied self.now.breadth) (option_copied self.now.finish) self.now.workers self.now.budget self.now.list.now }
         requires open_ { Verdict self.now.protocol.now None self.now.list.now Meant.unsettled }
-        ensures { IfOk result (IsTold self.now.protocol.now (template_of (option_copied self.now.breadth)) (template_of (option_copied self.now.finish)) self.now.budget) }
+        ensures { IfOk result (IsTold self.now.protocol.now (template_of (option_copied self.now.breadth)) (template_of (option_copied self.now.finish)) self.now.workers self.now.budget) }
     {
         match self.finish {
             Some(space) => self.finished(rt, alloc, space, gate),
@@ -128,14 +135,14 @@ impl Found<'_> {
     }
 
     /// Asks whether the list shows safety, and tells the report with the word, or what ended that.
-    pub fn tell<H: Wait, G: Gate>(
+    pub fn tell<H: Threads + Wait + Sync, G: Gate + Sync>(
         &self,
         rt: &H,
         alloc: Global,
         gate: &G,
     ) -> Result<Told, AllocError>
-        requires found { IsFound self.now.protocol.now (option_copied self.now.breadth) (option_copied self.now.finish) self.now.budget self.now.list.now }
-        ensures { IfOk result (IsTold self.now.protocol.now (template_of (option_copied self.now.breadth)) (template_of (option_copied self.now.finish)) self.now.budget) }
+        requires found { IsFound self.now.protocol.now (option_copied self.now.breadth) (option_copied self.now.finish) self.now.workers self.now.budget self.now.list.now }
+        ensures { IfOk result (IsTold self.now.protocol.now (template_of (option_copied self.now.breadth)) (template_of (option_copied self.now.finish)) self.now.workers self.now.budget) }
     {
         match judge_safety(alloc, self.protocol, self.list, self.budget)? {
             Judged::Violated => self.report(alloc, Word::Violated),

@@ -8,5 +8,5 @@ use Rattle.sw_search.proofs.listing.list_of.Goals as goal
 
 pub returns-in-Some : goal.returns-in-Some
 returns-in-Some g c =
-    let same : template_of (option_copied c.args.breadth) ≡ Some c.in-Some.space.now.template = ap (λ b. template_of (option_copied b)) c.in-Some.is in
-    subst (λ (t : Option Template). IfOk c.list_in.result (IsListed c.args.protocol.now t c.args.budget)) (sym same) c.list_in.ensures
+    let same : template_of (option_copied c.args.space) ≡ Some c.in-Some.space.now.template = ap (λ b. template_of (option_copied b)) c.in-Some.is in
+    subst (λ (t : Option Template). IfOk c.list.result (IsListed c.args.protocol.now t c.args.workers c.args.budget)) (sym same) c.list.ensures

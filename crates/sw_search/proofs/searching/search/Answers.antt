@@ -6,5 +6,5 @@ use Rattle.sw_search.proofs.searching.search.Goals as goal
 
 pub returns-in-Stopped : goal.returns-in-Stopped
 returns-in-Stopped g c =
-    let told = subst (IsListed c.args.protocol.now (template_of (option_copied c.args.breadth)) c.args.budget) c.in-Stopped.is c.in_ok-list.ensures in
+    let told = subst (IsListed c.args.protocol.now (template_of (option_copied c.args.breadth)) c.args.workers c.args.budget) c.in-Stopped.is c.in_ok-list.ensures in
     told (template_of (option_copied c.args.finish))

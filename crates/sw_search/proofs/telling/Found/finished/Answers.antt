@@ -11,5 +11,5 @@ pub returns-in-Stopped : goal.returns-in-Stopped
 returns-in-Stopped g c =
     let found = c.args.self.now in
     let t = template_of (option_copied found.breadth) in
-    let told = subst (IsFinished found.protocol.now t c.args.space.now.template found.budget found.list.now) c.in-Stopped.is c.in_ok-formula.ensures in
-    subst (λ (o : Option Made). IsStopped found.protocol.now t (template_of o) found.budget (string_bytes c.in-Stopped.line)) (sym c.requires.space) told
+    let told = subst (IsFinished found.protocol.now t c.args.space.now.template found.workers found.budget found.list.now) c.in-Stopped.is c.in_ok-formula.ensures in
+    subst (λ (o : Option Made). IsStopped found.protocol.now t (template_of o) found.workers found.budget (string_bytes c.in-Stopped.line)) (sym c.requires.space) told
