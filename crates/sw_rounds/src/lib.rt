@@ -1,6 +1,6 @@
 //! Breadth: rounds of workers on a shared log, and the record of what they did.
 #![tactic(auto)]
 
-pub mod breadth;
+pub mod rounds;
 
-pub use breadth::breadth;
+pub use rounds::breadth;

@@ -1,5 +1,1 @@
 pub mod OneReport
-pub mod Lists
-pub mod Searchable
-pub mod Breadth
-pub mod Finish

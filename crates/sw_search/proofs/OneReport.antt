@@ -14,9 +14,9 @@ use Rattle.sw_meaning.specs.Laws.{SameWord, OneMeaning}
 use Rattle.sw_meaning.proofs.OneMeaning.{lists_have_one_meaning}
 use Rattle.sw_meaning.proofs.OnePlain.{plain_is_one}
 use Rattle.sw_report.specs.Words.{word_status}
-use Rattle.sw_finish.specs.Finishing.{IsFirstJoined}
-use Rattle.sw_search.specs.Searches.{IsPlain, IsFirst}
-use Rattle.sw_search.specs.Laws.{OneReport}
+use Rattle.sw_seek.specs.Seeking.{IsFirstJoined}
+use Rattle.sw_search.specs.Searches.{IsPlain, IsFirst, IsReport}
+use Rattle.sw_search.specs.Laws.{OneReport, ReportsSayTheSame}
 
 one_list : (p : Protocol) (t : Option Template) (g h : List Formula) → IsPlain p t g → IsPlain p t h → g ≡ h
 one_list p None g h a b = a ∙ sym b
@@ -47,12 +47,28 @@ one_word p u g Word.exhausted Word.exhausted a b s = refl
 one_word p u g Word.unsettled Word.unsettled a b s = refl
 one_word p u g w v a b s = absurd s
 
+one_status : (w v : Word) → SameWord w v → word_status w ≡ word_status v
+one_status Word.violated Word.violated s = refl
+one_status Word.safe Word.safe s = refl
+one_status (Word.safe_with f) (Word.safe_with h) s = refl
+one_status Word.exhausted Word.exhausted s = refl
+one_status Word.unsettled Word.unsettled s = refl
+one_status w v s = absurd s
+
+meaning_of : (p : Protocol) (t u : Option Template) (v w m n : ℕ) (xs ys : List ℕ) (a : IsReport p t u v m xs) (b : IsReport p t u w n ys) → OneMeaning p a.list b.list
+meaning_of p t u v w m n xs ys a b = lists_have_one_meaning p t a.list b.list a.found.earned a.found.closed b.found.earned b.found.closed
+
+pub reports_say_the_same : ReportsSayTheSame
+reports_say_the_same p t u v w m n xs ys a b =
+    let meaning = meaning_of p t u v w m n xs ys a b in
+    record { status = a.ends ∙ (one_status a.word b.word (meaning.word u a.word b.word a.says.verdict b.says.verdict) ∙ sym b.ends); meaning = meaning }
+
 pub one_report : OneReport
 one_report p t u m n xs ys a b =
-    let lists : a.list ≡ b.list = one_list p t a.list b.list a.found.plain b.found.plain in
-    let meaning : OneMeaning p a.list b.list = lists_have_one_meaning p t a.list b.list a.found.earned a.found.closed b.found.earned b.found.closed in
+    let lists : a.list ≡ b.list = one_list p t a.list b.list (a.found.plain refl) (b.found.plain refl) in
+    let meaning : OneMeaning p a.list b.list = meaning_of p t u 1 1 m n xs ys a b in
     let same : SameWord a.word b.word = meaning.word u a.word b.word a.says.verdict b.says.verdict in
-    let words : a.word ≡ b.word = one_word p u b.list a.word b.word (subst (λ g. IsFirst p u g a.word) lists a.says.first) b.says.first same in (
+    let words : a.word ≡ b.word = one_word p u b.list a.word b.word (subst (λ g. IsFirst p u g a.word) lists (a.says.first refl)) (b.says.first refl) same in (
       a.ends ∙ (ap word_status words ∙ sym b.ends),
       a.text ∙ (ap (λ g. report_text p t g a.word) lists ∙ (ap (report_text p t b.list) words ∙ sym b.text)),
     )

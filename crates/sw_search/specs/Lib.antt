@@ -1,4 +1,3 @@
 pub mod Searches
 pub mod Spaces
-pub mod Phases
 pub mod Laws
