@@ -11,17 +11,16 @@ use Rattle.sw_words.specs.declared.limits.TheConstants.{MOST_WORKERS, MOST_CONFL
 use Rattle.sw_words.specs.Grammar.{Word, Piece, named, value, Given, number_of, within, number_within, workers_of, conflicts_of, value_of, search_names, options_from, options_with, options_of, drill_with, drill_by, drill_of, space_of, alone, command_with, command_of, may_stand, pieces}
 
 -- how many workers there may be
-abbrev AreWorkers : ℕ → Type 0
+abbrev pub AreWorkers : ℕ → Type 0
 AreWorkers workers = (1 ≤ workers) × (workers ≤ 64)
 
 -- the budget is at least 1, if there is one
-abbrev HasSome : Option ℕ → Type 0
+abbrev pub HasSome : Option ℕ → Type 0
 HasSome budget = IfSome budget (λ most. 1 ≤ most)
 
 -- the numbers of a search are within their bounds
-pub record AreWithin (o : Options) : Type 0 where
-  pub workers : AreWorkers o.workers
-  pub some : HasSome o.conflicts
+abbrev pub AreWithin : Options → Type 0
+AreWithin o = AreWorkers o.workers × HasSome o.conflicts
 
 -- those of a search; other commands have none
 abbrev pub Asks : Option Command → Type 0
@@ -57,7 +56,7 @@ made_within : (breadth finish : Option Word) (workers : Option ℕ) (conflicts :
     → IfSome (option_and_then (λ w. option_map (λ c. record { breadth = breadth; finish = finish; workers = w; conflicts = c }) conflicts) workers) AreWithin
 made_within breadth finish None conflicts w h = tt
 made_within breadth finish (Some n) None w h = tt
-made_within breadth finish (Some n) (Some c) w h = record { workers = w; some = h }
+made_within breadth finish (Some n) (Some c) w h = (w, h)
 
 with_within : (given : Given) → IfSome (options_with given) AreWithin
 with_within given =

@@ -3,7 +3,6 @@ use Rattle.std.specs.Prelude.{◌≡◌, ℕ, List, Option}
 use Rattle.std.proofs.Common.{refl, sym, ap, ◌∙◌, subst}
 use Rattle.sw_meaning.specs.declared.protocol.Protocol.{Protocol}
 use Rattle.sw_meaning.specs.declared.template.Template.{Template}
-use Rattle.sw_words.specs.declared.commands.Options.{Options}
 use Rattle.sw_search.specs.Searches.{IsReport}
 use Rattle.sw_search.specs.Laws.{IsSameReport}
 use Rattle.sw_search.proofs.OneReport as search

@@ -1,5 +1,5 @@
 -- What two answers to searches of a protocol with the same templates have in common, but for a query that ended one of them.
-use Rattle.std.specs.Prelude.{◌≡◌, ◌⊎◌, ℕ, ◌<◌, ◌≤◌, List, [], length, Option, None}
+use Rattle.std.specs.Prelude.{◌≡◌, ◌⊎◌, ℕ, List, [], length, Option, None}
 use Rattle.std.proofs.Common.{refl, arith, sym, ap, ◌∙◌, inl, inr}
 use Rattle.sw_meaning.specs.declared.protocol.Protocol.{Protocol}
 use Rattle.sw_meaning.specs.declared.template.Template.{Template}
@@ -7,7 +7,7 @@ use Rattle.sw_words.specs.declared.commands.Options.{Options}
 use Rattle.sw_report.specs.Words.{text_over_line}
 use Rattle.sw_space.specs.declared.faults.SpaceFault.{SpaceFault}
 use Rattle.sw_search.specs.Searches.{IsStopped}
-use Rattle.sw_run.specs.Ending.{Answer, Searches, Reports, Stops, Names, NamesFault, NamesBy, refused, stop}
+use Rattle.sw_run.specs.Ending.{Answer, Searches, Reports, Names, NamesFault, NamesBy, refused, stop}
 use Rattle.sw_run.specs.Laws.{IsEnded, HaveSameTemplates, TellsReport, Finds, FindTheSame}
 use Rattle.sw_run.specs.declared.told.Refusal.TheVariants.{BreadthFaulty, FinishFaulty}
 use Rattle.sw_run.proofs.Naming.{one_naming, named_not_faulty, one_named_fault, named_not_unfinished, one_finish_fault, breadth_by, finish_by, named_by}
@@ -33,7 +33,7 @@ module _ (o v : Options) (same : HaveSameTemplates o v) (p : Protocol) (a : Answ
   }) (named_by o v same p r.breadth r.finish r.named)
 
   stopped : (t u : Option Template) → NamesBy v p t u → IsStopped p t u v.workers v.conflicts a.line → a ≡ stop a.line → Outcome o v p a
-  stopped t u by (IsStopped.asked query ended stops is) told = Outcome.ended (record { sig = p.signature; query = query; ended = ended; is = told ∙ ap stop is })
+  stopped t u by (IsStopped.asked query how stops is) told = Outcome.ended (record { sig = p.signature; query = query; ended = how; is = told ∙ ap stop is })
   stopped t u by (IsStopped.over n over is) told = Outcome.found (record {
     breadth = t;
     finish = u;
@@ -51,12 +51,12 @@ module _ (o v : Options) (same : HaveSameTemplates o v) (p : Protocol) (a : Answ
   outcome (Searches.finish_faulty t f by has is) =
       Outcome.finish_faulty t f (breadth_by o v same p (λ given. Names given p None t) by) (finish_by o v same p (λ given. NamesFault given p t f) has) is
 
-module _ (o v w : Options) (p : Protocol) (a b : Answer) where
-  -- a query ended one of them, they are one, or both found a list
-  Common : Type 0
-  Common = (IsEnded a ⊎ IsEnded b) ⊎ ((a ≡ b) ⊎ FindTheSame v w a b)
+-- a query ended one of them, they are one, or both found a list
+abbrev pub Common : Options → Options → Answer → Answer → Type 0
+Common v w a b = (IsEnded a ⊎ IsEnded b) ⊎ ((a ≡ b) ⊎ FindTheSame v w a b)
 
-  both_found : (f : Finds v p a) (g : Finds w p b) → NamesBy o p f.breadth f.finish → NamesBy o p g.breadth g.finish → Common
+module _ (o v w : Options) (p : Protocol) (a b : Answer) where
+  both_found : (f : Finds v p a) (g : Finds w p b) → NamesBy o p f.breadth f.finish → NamesBy o p g.breadth g.finish → Common v w a b
   both_found f g by also = inr (inr (record {
     protocol = p;
     one = f;
@@ -64,7 +64,7 @@ module _ (o v w : Options) (p : Protocol) (a b : Answer) where
     same = say_same p f.breadth f.finish g.breadth g.finish (one_naming o p f.breadth f.finish g.breadth g.finish by also) v.workers w.workers f.status g.status f.text g.text f.report g.report;
   }))
 
-  common : Outcome o v p a → Outcome o w p b → Common
+  common : Outcome o v p a → Outcome o w p b → Common v w a b
   common (Outcome.ended x) y = inl (inl x)
   common x (Outcome.ended y) = inl (inr y)
   common (Outcome.found f by) (Outcome.found g also) = both_found f g by also
@@ -81,7 +81,7 @@ module _ (o v w : Options) (p : Protocol) (a b : Answer) where
 same_templates : (o : Options) → HaveSameTemplates o o
 same_templates o = record { breadth = refl; finish = refl }
 
-pub common_searches : (o v : Options) (p : Protocol) (a b : Answer) → HaveSameTemplates o v → Searches o p a → Searches v p b → Common o o v p a b
+pub common_searches : (o v : Options) (p : Protocol) (a b : Answer) → HaveSameTemplates o v → Searches o p a → Searches v p b → Common o v a b
 common_searches o v p a b same x y = common o o v p a b (outcome o o (same_templates o) p a x) (outcome o v same p b y)
 
 -- the same status and text are told alike
@@ -105,7 +105,7 @@ one_finding o a b one f =
 pub one_search : (o : Options) (p : Protocol) (a b : Answer) → o.workers ≡ 1 → Searches o p a → Searches o p b → (IsEnded a ⊎ IsEnded b) ⊎ (a ≡ b)
 one_search o p a b one x y = told (common_searches o o p a b (same_templates o) x y)
   where
-    told : Common o o o p a b → (IsEnded a ⊎ IsEnded b) ⊎ (a ≡ b)
-    told (inl ended) = inl ended
+    told : Common o o a b → (IsEnded a ⊎ IsEnded b) ⊎ (a ≡ b)
+    told (inl lost) = inl lost
     told (inr (inl same)) = inr same
-    told (inr (inr found)) = inr (one_finding o a b one found)
+    told (inr (inr both)) = inr (one_finding o a b one both)
