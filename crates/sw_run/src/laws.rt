@@ -30,7 +30,8 @@ pub fn one_answer()
     ensures { OneAnswer }
 {}
 
-/// Where they are one, they fix what the answer says, but for the same.
+/// Where they are one, the templates and the bytes fix what the answer says, but for the same: two
+/// searches found lists of one meaning, whether their reports are told or are too long.
 pub fn answers_say_the_same()
     ensures { AnswersSayTheSame }
 {}

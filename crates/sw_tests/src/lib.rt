@@ -30,3 +30,5 @@ mod structures;
 mod truths;
 #[cfg(test)]
 mod walks;
+#[cfg(test)]
+mod workers;
