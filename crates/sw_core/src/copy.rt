@@ -28,7 +28,8 @@ fn copy_pair(alloc: Global, pair: &Pair) -> Result<Pair, AllocError>
     })
 }
 
-fn copy_filter(alloc: Global, filter: &Filter) -> Result<Filter, AllocError>
+/// The same filter.
+pub fn copy_filter(alloc: Global, filter: &Filter) -> Result<Filter, AllocError>
     ensures { IfOk result (λ f. f ≡ filter.now) }
 {
     match filter {

@@ -15,7 +15,8 @@ use Rattle.sw_pool.specs.Pools.{IsShown, filter_of, index_of}
 use Rattle.sw_pool.specs.Cursors.{IsRead, KeepsRead, LeavesOthers}
 use Rattle.sw_pool.specs.Refreshes.{Shows, IsNewcomer, AddsEach, AddsSome, AreUnread, AreRead, AreApart, IsTaken, TakesAll, Marks, Visits, passed, refused, found}
 
-pub shows : (pool : Pool) (p : Protocol) (token : Seen) (x a : Filter) (e : Shown) → IsShown pool token → x ≡ filter_of token → IsAdmitted p x × (a ≡ x) → IsNew a false e → Shows pool p token e
+pub shows : (pool : Pool) (p : Protocol) (token : Seen) (x a : Filter) (e : Shown) → IsShown pool token → x ≡ filter_of token → IsAdmitted p x × (a ≡ x) →
+    IsNew a false e → Shows pool p token e
 shows pool p token x a e shown at admitted new = record {
   shown = shown;
   filter = sym at ∙ (sym admitted.1 ∙ sym new.filter);
@@ -42,7 +43,8 @@ pub record Walks (pool : Pool) (p : Protocol) (cursor cursor' : List Bool) (show
   pub all : TakesAll pool p cursor cursor' tokens
   pub apart : AreApart tokens
 
-zip_push : (pool : Pool) (p : Protocol) (ts : List Seen) (es : List Shown) (t : Seen) (e : Shown) → AllZip (Shows pool p) ts es → Shows pool p t e → AllZip (Shows pool p) (ts ++ t ∷ []) (es ++ e ∷ [])
+zip_push : (pool : Pool) (p : Protocol) (ts : List Seen) (es : List Shown) (t : Seen) (e : Shown) → AllZip (Shows pool p) ts es → Shows pool p t e →
+    AllZip (Shows pool p) (ts ++ t ∷ []) (es ++ e ∷ [])
 zip_push pool p [] [] t e z s = (s, tt)
 zip_push pool p [] (y ∷ ys) t e z s = absurd z
 zip_push pool p (x ∷ xs) [] t e z s = absurd z
@@ -83,7 +85,8 @@ more_taken pool p ts more i h = record { token = h.token; shown = h.shown; place
 kept_on : (token : Seen) (c c' : List Bool) → Marks token c c' → KeepsRead c c'
 kept_on token c c' m i h = elim (eqb_tells i (index_of token)) [ inl same ↦ subst (IsRead c') (sym same.1) m.is | inr other ↦ (m.others i other.1).1 h ]
 
-takes_on : (pool : Pool) (p : Protocol) (c0 c c' : List Bool) (ts more : List Seen) (token : Seen) → TakesAll pool p c0 c ts → Marks token c c' → IsTaken pool p (ts ++ more) (index_of token) → TakesAll pool p c0 c' (ts ++ more)
+takes_on : (pool : Pool) (p : Protocol) (c0 c c' : List Bool) (ts more : List Seen) (token : Seen) → TakesAll pool p c0 c ts → Marks token c c' →
+    IsTaken pool p (ts ++ more) (index_of token) → TakesAll pool p c0 c' (ts ++ more)
 takes_on pool p c0 c c' ts more token was m here i read unread =
     elim (eqb_tells i (index_of token)) [
       | inl same ↦ subst (IsTaken pool p (ts ++ more)) (sym same.1) here

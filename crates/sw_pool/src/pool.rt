@@ -27,6 +27,17 @@ pub enum PublishError {
     Memory(Filter),
 }
 
+impl Seen {
+    /// The same token.
+    pub fn again(&self) -> Seen
+        ensures { result ≡ self.now }
+    {
+        Seen {
+            pushed: self.pushed.again(),
+        }
+    }
+}
+
 impl Pool {
     ghost use Rattle.sw_pool.specs.Pools.{IsShown, filter_of, index_of, HandsBack};
     ghost use Rattle.sw_pool.specs.Cursors.{KeepsRead};

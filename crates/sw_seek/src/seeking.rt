@@ -4,6 +4,8 @@ ghost use Rattle.sw_filter.specs.declared.filter.Mode.TheVariants.{Finish};
 ghost use Rattle.sw_hand.specs.Hands.{search_of};
 ghost use Rattle.sw_seek.specs.Seeking.{CanFinish, IsSought, IsCause};
 
+use crate::considering::{Found, Seeking};
+use crate::drawing::{Drew, Progress};
 use crate::errors::FinishError;
 use sqlite_items::Items;
 use std::alloc::Global;
@@ -30,6 +32,41 @@ pub enum Sought {
     Stopped(u64),
 }
 
+impl<'a, B: Candidates + Walk> Seeking<'_, 'a, B> {
+    ghost use Rattle.sw_seek.specs.Steps.{CanSeek, searched};
+
+    /// What the worker finds; before a class that joins is answered, the claims are stopped.
+    fn search<H: Wait, G: Gate>(
+        &self,
+        rt: &H,
+        alloc: Global,
+        claims: &Claims,
+        seat: &mut ClaimSeat,
+        gate: &G,
+    ) -> Result<Sought, FinishError>
+        requires can { CanSeek B.template B.part_lists B.has B.formula_of self.now }
+        requires claims { seat.old.object ≡ claims.now }
+        requires parts { seat.old.view.parts ≡ length (B.part_lists self.now.task.now.space.now) }
+        ensures claims { seat.new.object ≡ seat.old.object }
+        ensures sought { IfOk result (IsSought (searched B.template self.now) self.now.task.now.pool.now self.now.task.now.worker self.now.entries.now self.now.budget seat.old.view seat.new.view) }
+        ensures cause { IfErr result (IsCause (searched B.template self.now) self.now.entries.now self.now.budget) }
+    {
+        let mut hand = self.begin(alloc)?;
+        let mut progress = Progress {
+            drawn: Items::new(alloc),
+            settled: Items::new(alloc),
+        };
+        match self.draw(rt, alloc, claims, seat, gate, &mut hand, &mut progress)? {
+            Drew::Found(Found { body, start, steps }) => {
+                claims.stop(seat, u64::from(self.task.worker) + 1);
+                Ok(Sought::Joins { body, start, steps })
+            }
+            Drew::All => Ok(Sought::Done(self.hand_over(alloc, hand, progress)?)),
+            Drew::Stopped(reason) => Ok(Sought::Stopped(reason)),
+        }
+    }
+}
+
 /// One worker's search. It draws a part, passes the gate, takes in what the pool has gained, and goes
 /// through the classes of the part in order: each is sifted, and examined where no filter rejects it; a
 /// counterexample is published and kept. Before a class that joins or an error is answered the claims
@@ -53,6 +90,14 @@ pub fn seek<'a, H: Wait, G: Gate, B: Candidates + Walk>(
     ensures cause { IfErr result (IsCause (search_of task.now.protocol.now (B.template task.now.space.now) Finish task.now.workers) entries.now budget) }
     ensures stopped { IfErr result (λ _. 1 ≤ claim_seat.new.view.seen) }
 {
-    claims.stop(claim_seat, task.worker as u64 + 1);
-    Err(FinishError::Memory)
+    let seeking = Seeking {
+        task,
+        entries,
+        budget,
+    };
+    let sought = seeking.search(rt, alloc, claims, claim_seat, gate);
+    if sought.is_err() {
+        claims.stop(claim_seat, u64::from(task.worker) + 1);
+    }
+    sought
 }

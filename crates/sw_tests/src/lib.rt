@@ -13,6 +13,8 @@ mod gates;
 #[cfg(test)]
 mod lines;
 #[cfg(test)]
+mod pools;
+#[cfg(test)]
 mod protocols;
 #[cfg(test)]
 mod reading;

@@ -1,5 +1,5 @@
 -- What a worker does in a round of breadth, and why it may end without an answer.
-use Rattle.std.specs.Prelude.{◌≡◌, ℕ, ◌≤◌, ◌<◌, ◌==◌, ◌&&◌, Bool, true, false, List, [], ◌∷◌, ◌++◌, map, length, take, Option, Some, IfSome, Contains, slice_get, if◌then◌else◌}
+use Rattle.std.specs.Prelude.{◌≡◌, ℕ, ◌≤◌, ◌==◌, ◌&&◌, Bool, true, false, List, [], ◌∷◌, ◌++◌, map, length, take, Option, Some, IfSome, Contains, slice_get, if◌then◌else◌}
 use Rattle.std.specs.List.{AllByRecursion, FoldsTo, list_any}
 use mathlib.Core.List.{IsPrefix}
 use Rattle.sw_logic.specs.declared.syntax.Edge.{Edge}
@@ -29,7 +29,7 @@ use Rattle.sw_core.specs.Machine.{Search, formula_in, parts_in}
 use Rattle.sw_core.specs.Founded.{Gains}
 use Rattle.sw_walk.specs.Parts.{all_classes, classes_of, class_of, IsClass}
 use Rattle.sw_hand.specs.Hands.{IsHanded}
-use Rattle.sw_hand.specs.Seats.{HasDrawn, HasStopped}
+pub use Rattle.sw_hand.specs.Seats.{HasDrawn, HasStopped}
 use Rattle.sw_work.specs.declared.errors.BreadthError.{BreadthError}
 use Rattle.sw_work.specs.declared.errors.BreadthError.TheVariants.{Memory, Spent, TooLarge}
 use Rattle.sw_work.specs.declared.working.Worked.{Worked}

@@ -1,7 +1,11 @@
 //! Breadth: what one worker does in one round.
 #![tactic(auto)]
 
+pub mod bench;
+pub mod considering;
+pub mod drawing;
 pub mod errors;
+pub mod passing;
 pub mod working;
 
 pub use errors::BreadthError;

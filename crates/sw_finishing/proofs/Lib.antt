@@ -1,0 +1,5 @@
+pub mod Crossing
+pub mod Joins
+pub mod Seeks
+pub mod Shares
+pub mod Whole

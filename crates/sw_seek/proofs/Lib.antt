@@ -1,0 +1,4 @@
+pub mod Firsts
+pub mod Standing
+pub mod Settled
+pub mod Draws

@@ -1,0 +1,8 @@
+pub mod Alone
+pub mod Asked
+pub mod Begins
+pub mod Draws
+pub mod Handing
+pub mod Promised
+pub mod Rows
+pub mod Seen
