@@ -10,7 +10,7 @@ use Rattle.sw_words.specs.declared.commands.Command.{Command}
 use Rattle.sw_words.specs.declared.commands.Command.TheVariants.{Synth, Space, Print}
 use Rattle.sw_words.specs.declared.commands.Options.{Options}
 use Rattle.sw_meaning.specs.declared.template.Template.{Template}
-use Rattle.sw_run.specs.Words.{has_one_worker, is_served, asks_check}
+use Rattle.sw_run.specs.Words.{is_served, asks_check}
 use Rattle.sw_run.specs.Ending.{Change, Answer, Faults, Misreads, Reads, Searches, Reports, Stops, Names, NamesFault, NamesBy, Prints, Sizes, IsInput, IsTooLong, Allowed, AllowedCheck, refused, sized}
 use Rattle.sw_run.specs.Laws.{Tells, LacksMemory, IsRefusedUnread, WordsChoose, InputChooses, SearchChooses, SizeChooses, RowsExcludeEachOther}
 use Rattle.sw_run.specs.declared.input.TheConstants.{INPUT_LIMIT}
@@ -43,7 +43,7 @@ module _ (command : Option Command) (input : Change) (a : Answer) where
   usage_alone : command ≡ None → Allowed command input a → IsRefusedUnread Usage input a ⊎ LacksMemory a
   usage_alone none (Allowed.usage n u is) = inl (is, u)
   usage_alone none (Allowed.unserved c some off u is) = absurd (no_command command c none some)
-  usage_alone none (Allowed.synth o some plain reads) = absurd (no_command command (Synth o) none some)
+  usage_alone none (Allowed.synth o some reads) = absurd (no_command command (Synth o) none some)
   usage_alone none (Allowed.space text some reads) = absurd (no_command command (Space text) none some)
   usage_alone none (Allowed.print some reads) = absurd (no_command command Print none some)
   usage_alone none (Allowed.no_memory is) = inr is
@@ -51,24 +51,24 @@ module _ (command : Option Command) (input : Change) (a : Answer) where
   unserved_alone : (c : Command) → command ≡ Some c → is_served c ≡ false → Allowed command input a → IsRefusedUnread Unbuilt input a ⊎ LacksMemory a
   unserved_alone c some off (Allowed.usage none u is) = absurd (no_command command c none some)
   unserved_alone c some off (Allowed.unserved d e f u is) = inl (is, u)
-  unserved_alone c some off (Allowed.synth o e plain reads) = absurd (other_served command c (Synth o) some e off plain)
+  unserved_alone c some off (Allowed.synth o e reads) = absurd (other_served command c (Synth o) some e off refl)
   unserved_alone c some off (Allowed.space text e reads) = absurd (other_served command c (Space text) some e off refl)
   unserved_alone c some off (Allowed.print e reads) = absurd (other_served command c Print some e off refl)
   unserved_alone c some off (Allowed.no_memory is) = inr is
 
-  synth_alone : (o : Options) → command ≡ Some (Synth o) → has_one_worker o ≡ true → Allowed command input a → Reads input (Searches o) a ⊎ LacksMemory a
-  synth_alone o some on (Allowed.usage none u is) = absurd (no_command command (Synth o) none some)
-  synth_alone o some on (Allowed.unserved c e off u is) = absurd (other_served command c (Synth o) e some off on)
-  synth_alone o some on (Allowed.synth p e plain reads) =
+  synth_alone : (o : Options) → command ≡ Some (Synth o) → Allowed command input a → Reads input (Searches o) a ⊎ LacksMemory a
+  synth_alone o some (Allowed.usage none u is) = absurd (no_command command (Synth o) none some)
+  synth_alone o some (Allowed.unserved c e off u is) = absurd (other_served command c (Synth o) e some off refl)
+  synth_alone o some (Allowed.synth p e reads) =
       let same : p ≡ o = same_options p o (same_command command (Synth p) (Synth o) e some) in inl (subst (λ q. Reads input (Searches q) a) same reads)
-  synth_alone o some on (Allowed.space text e reads) = let bad : Space text ≡ Synth o = same_command command (Space text) (Synth o) e some in absurd cc
-  synth_alone o some on (Allowed.print e reads) = let bad : Print ≡ Synth o = same_command command Print (Synth o) e some in absurd cc
-  synth_alone o some on (Allowed.no_memory is) = inr is
+  synth_alone o some (Allowed.space text e reads) = let bad : Space text ≡ Synth o = same_command command (Space text) (Synth o) e some in absurd cc
+  synth_alone o some (Allowed.print e reads) = let bad : Print ≡ Synth o = same_command command Print (Synth o) e some in absurd cc
+  synth_alone o some (Allowed.no_memory is) = inr is
 
   space_alone : (text : List ℕ) → command ≡ Some (Space text) → Allowed command input a → Reads input (Sizes text) a ⊎ LacksMemory a
   space_alone text some (Allowed.usage none u is) = absurd (no_command command (Space text) none some)
   space_alone text some (Allowed.unserved c e off u is) = absurd (other_served command c (Space text) e some off refl)
-  space_alone text some (Allowed.synth o e plain reads) = let bad : Space text ≡ Synth o = same_command command (Space text) (Synth o) some e in absurd cc
+  space_alone text some (Allowed.synth o e reads) = let bad : Space text ≡ Synth o = same_command command (Space text) (Synth o) some e in absurd cc
   space_alone text some (Allowed.space other e reads) =
       let same : other ≡ text = same_text other text (same_command command (Space other) (Space text) e some) in inl (subst (λ t. Reads input (Sizes t) a) same reads)
   space_alone text some (Allowed.print e reads) = let bad : Space text ≡ Print = same_command command (Space text) Print some e in absurd cc
@@ -77,7 +77,7 @@ module _ (command : Option Command) (input : Change) (a : Answer) where
   print_alone : command ≡ Some Print → Allowed command input a → Reads input Prints a ⊎ LacksMemory a
   print_alone some (Allowed.usage none u is) = absurd (no_command command Print none some)
   print_alone some (Allowed.unserved c e off u is) = absurd (other_served command c Print e some off refl)
-  print_alone some (Allowed.synth o e plain reads) = let bad : Print ≡ Synth o = same_command command Print (Synth o) some e in absurd cc
+  print_alone some (Allowed.synth o e reads) = let bad : Print ≡ Synth o = same_command command Print (Synth o) some e in absurd cc
   print_alone some (Allowed.space text e reads) = let bad : Print ≡ Space text = same_command command Print (Space text) some e in absurd cc
   print_alone some (Allowed.print e reads) = inl reads
   print_alone some (Allowed.no_memory is) = inr is

@@ -1,4 +1,4 @@
-pub mod Budgets
+pub mod Bounds
 pub mod Causes
 pub mod Ends
 pub mod Inputs

@@ -1,4 +1,4 @@
--- The options fix the templates over a protocol, and a fault of their texts leaves none.
+-- The options fix the templates over a protocol, and a fault of their texts leaves none; the same texts name the same templates.
 use Rattle.std.specs.Prelude.{◌≡◌, List, ℕ, Option, Some, None, Result, Ok, Err}
 use Rattle.std.proofs.Common.{sym, ap, ◌∙◌, subst}
 use Rattle.std.proofs.lemmas.Option.{same_Some}
@@ -9,6 +9,7 @@ use Rattle.sw_space.specs.declared.faults.SpaceFault.{SpaceFault}
 use Rattle.sw_space.specs.Named.{HasSpace}
 use Rattle.sw_space.proofs.OneSpace.{one_space}
 use Rattle.sw_run.specs.Ending.{Names, NamesFault, NamesBy}
+use Rattle.sw_run.specs.Laws.{HaveSameTemplates}
 
 pub same_named : (t u : Template) → ◌≡◌ {A = Result Template SpaceFault} (Ok t) (Ok u) → t ≡ u
 same_named t u h = cc
@@ -55,3 +56,14 @@ module _ (options : Options) (p : Protocol) where
   pub one_finish_fault : (t v : Option Template) (f g : SpaceFault) → Names options.breadth p None t → Names options.breadth p None v → NamesFault options.finish p t f → NamesFault options.finish p v g
       → f ≡ g
   one_finish_fault t v f g a b x y = one_named_fault options.finish p v f g (finish_faulty_beside t v f a b x) y
+
+-- what is said of the texts of the one is said of those of the other
+module _ (o v : Options) (same : HaveSameTemplates o v) (p : Protocol) where
+  pub breadth_by : (P : Option (List ℕ) → Type 0) → P v.breadth → P o.breadth
+  breadth_by P = subst P (sym same.breadth)
+
+  pub finish_by : (P : Option (List ℕ) → Type 0) → P v.finish → P o.finish
+  finish_by P = subst P (sym same.finish)
+
+  pub named_by : (t u : Option Template) → NamesBy v p t u → NamesBy o p t u
+  named_by t u by = record { breadth = breadth_by (λ given. Names given p None t) by.breadth; finish = finish_by (λ given. Names given p t u) by.finish }

@@ -1,74 +1,111 @@
--- A protocol has one answer to a search, but for a query that ended it.
-use Rattle.std.specs.Prelude.{◌≡◌, ◌⊎◌, ℕ, length, Option, None}
-use Rattle.std.proofs.Common.{arith, sym, ap, ◌∙◌, inl, inr}
+-- What two answers to searches of a protocol with the same templates have in common, but for a query that ended one of them.
+use Rattle.std.specs.Prelude.{◌≡◌, ◌⊎◌, ℕ, List, [], length, Option, None}
+use Rattle.std.proofs.Common.{refl, arith, sym, ap, ◌∙◌, inl, inr}
 use Rattle.sw_meaning.specs.declared.protocol.Protocol.{Protocol}
 use Rattle.sw_meaning.specs.declared.template.Template.{Template}
 use Rattle.sw_words.specs.declared.commands.Options.{Options}
 use Rattle.sw_report.specs.Words.{text_over_line}
-use Rattle.sw_search.specs.Searches.{IsStopped, IsTextOver}
-use Rattle.sw_search.proofs.OneReport as search
-use Rattle.sw_run.specs.Ending.{Answer, Searches, Reports, Stops, refused, stop}
-use Rattle.sw_run.specs.Laws.{IsEnded}
+use Rattle.sw_space.specs.declared.faults.SpaceFault.{SpaceFault}
+use Rattle.sw_search.specs.Searches.{IsStopped}
+use Rattle.sw_run.specs.Ending.{Answer, Searches, Reports, Names, NamesFault, NamesBy, refused, stop}
+use Rattle.sw_run.specs.Laws.{IsEnded, HaveSameTemplates, TellsReport, Finds, FindTheSame}
 use Rattle.sw_run.specs.declared.told.Refusal.TheVariants.{BreadthFaulty, FinishFaulty}
-use Rattle.sw_run.proofs.Naming.{one_naming, named_not_faulty, one_named_fault, named_not_unfinished, one_finish_fault}
-use Rattle.sw_run.proofs.OneReport.{one_report, over_both}
+use Rattle.sw_run.proofs.Naming.{one_naming, named_not_faulty, one_named_fault, named_not_unfinished, one_finish_fault, breadth_by, finish_by, named_by}
+use Rattle.sw_run.proofs.OneReport.{one_text, say_same}
 
--- a query ended one of them, or they are one
-abbrev pub IsSame : Answer → Answer → Type 0
-IsSame a b = (IsEnded a ⊎ IsEnded b) ⊎ (a ≡ b)
+-- what a search with the templates of `o` answers: a query ended it, it found a list, or a template has a fault
+data Outcome (o v : Options) (p : Protocol) (a : Answer) : Type 0 where
+  ended : IsEnded a → Outcome o v p a
+  found : (f : Finds v p a) → NamesBy o p f.breadth f.finish → Outcome o v p a
+  breadth_faulty : (f : SpaceFault) → NamesFault o.breadth p None f → a ≡ refused (BreadthFaulty f) → Outcome o v p a
+  finish_faulty : (t : Option Template) (f : SpaceFault) → Names o.breadth p None t → NamesFault o.finish p t f → a ≡ refused (FinishFaulty f) → Outcome o v p a
 
--- the report is too long
-record IsOver (p : Protocol) (t u : Option Template) (a : Answer) : Type 0 where
-  pub bytes : ℕ
-  pub over : IsTextOver p t u bytes
-  pub is : a ≡ stop (text_over_line bytes)
+module _ (o v : Options) (same : HaveSameTemplates o v) (p : Protocol) (a : Answer) where
+  reported : Reports v p a → Outcome o v p a
+  reported r = Outcome.found (record {
+    breadth = r.breadth;
+    finish = r.finish;
+    named = r.named;
+    status = a.status;
+    text = a.text;
+    report = r.report;
+    tells = TellsReport.told r.within (ap (λ z. record { status = a.status; text = a.text; line = z }) r.line);
+  }) (named_by o v same p r.breadth r.finish r.named)
 
--- what ended the search
-kind : (p : Protocol) (t u : Option Template) (budget : Option ℕ) (a : Answer) → IsStopped p t u budget a.line → a ≡ stop a.line → IsEnded a ⊎ IsOver p t u a
-kind p t u budget a (IsStopped.asked query ended stops is) told = inl (record { sig = p.signature; query = query; ended = ended; is = told ∙ ap stop is })
-kind p t u budget a (IsStopped.over n over is) told = inr (record { bytes = n; over = over; is = told ∙ ap stop is })
+  stopped : (t u : Option Template) → NamesBy v p t u → IsStopped p t u v.workers v.conflicts a.line → a ≡ stop a.line → Outcome o v p a
+  stopped t u by (IsStopped.asked query how stops is) told = Outcome.ended (record { sig = p.signature; query = query; ended = how; is = told ∙ ap stop is })
+  stopped t u by (IsStopped.over n over is) told = Outcome.found (record {
+    breadth = t;
+    finish = u;
+    named = by;
+    status = over.status;
+    text = over.bytes;
+    report = over.report;
+    tells = TellsReport.over over.over (told ∙ ap stop (is ∙ ap text_over_line over.is));
+  }) (named_by o v same p t u by)
 
-module _ (options : Options) (p : Protocol) where
-  stop_kind : (a : Answer) (s : Stops options p a) → IsEnded a ⊎ IsOver p s.breadth s.finish a
-  stop_kind a s = kind p s.breadth s.finish options.conflicts a s.ended s.is
+  outcome : Searches v p a → Outcome o v p a
+  outcome (Searches.report r) = reported r
+  outcome (Searches.stopped s) = stopped s.breadth s.finish s.named s.ended s.is
+  outcome (Searches.breadth_faulty f has is) = Outcome.breadth_faulty f (breadth_by o v same p (λ given. NamesFault given p None f) has) is
+  outcome (Searches.finish_faulty t f by has is) =
+      Outcome.finish_faulty t f (breadth_by o v same p (λ given. Names given p None t) by) (finish_by o v same p (λ given. NamesFault given p t f) has) is
 
-  -- a report that is told is not too long
-  not_over : (a : Answer) (r : Reports options p a) (n : ℕ) → IsTextOver p r.breadth r.finish n → ⊥
-  not_over a r n o =
-      let same : o.bytes ≡ a.text = (search.one_report p r.breadth r.finish o.status a.status o.bytes a.text o.report r.report).1 in
-      absurd (omega (arith, ap length same, o.over, r.within))
+-- a query ended one of them, they are one, or both found a list
+abbrev pub Common : Options → Options → Answer → Answer → Type 0
+Common v w a b = (IsEnded a ⊎ IsEnded b) ⊎ ((a ≡ b) ⊎ FindTheSame v w a b)
 
-  one_length : (t u : Option Template) (m n : ℕ) → IsTextOver p t u m → IsTextOver p t u n → m ≡ n
-  one_length t u m n x y = x.is ∙ (ap length (search.one_report p t u x.status y.status x.bytes y.bytes x.report y.report).1 ∙ sym y.is)
+module _ (o v w : Options) (p : Protocol) (a b : Answer) where
+  both_found : (f : Finds v p a) (g : Finds w p b) → NamesBy o p f.breadth f.finish → NamesBy o p g.breadth g.finish → Common v w a b
+  both_found f g by also = inr (inr (record {
+    protocol = p;
+    one = f;
+    other = g;
+    same = say_same p f.breadth f.finish g.breadth g.finish (one_naming o p f.breadth f.finish g.breadth g.finish by also) v.workers w.workers f.status g.status f.text g.text f.report g.report;
+  }))
 
-  report_stop : (a b : Answer) (r : Reports options p a) (s : Stops options p b) → IsEnded b ⊎ IsOver p s.breadth s.finish b → IsEnded b
-  report_stop a b r s (inl ended) = ended
-  report_stop a b r s (inr o) =
-      absurd (not_over a r o.bytes (over_both (λ t u. IsTextOver p t u o.bytes) s.breadth s.finish r.breadth r.finish (one_naming options p s.breadth s.finish r.breadth r.finish s.named r.named) o.over))
+  common : Outcome o v p a → Outcome o w p b → Common v w a b
+  common (Outcome.ended x) y = inl (inl x)
+  common x (Outcome.ended y) = inl (inr y)
+  common (Outcome.found f by) (Outcome.found g also) = both_found f g by also
+  common (Outcome.found r by) (Outcome.breadth_faulty f has is) = absurd (named_not_faulty o.breadth p None r.breadth f by.breadth has)
+  common (Outcome.found r by) (Outcome.finish_faulty t f names has is) = absurd (named_not_unfinished o p r.breadth r.finish t f by names has)
+  common (Outcome.breadth_faulty f has is) (Outcome.found r by) = absurd (named_not_faulty o.breadth p None r.breadth f by.breadth has)
+  common (Outcome.breadth_faulty f has is) (Outcome.breadth_faulty g also is') = inr (inl (is ∙ (ap (λ x. refused (BreadthFaulty x)) (one_named_fault o.breadth p None f g has also) ∙ sym is')))
+  common (Outcome.breadth_faulty f has is) (Outcome.finish_faulty t g names also is') = absurd (named_not_faulty o.breadth p None t f names has)
+  common (Outcome.finish_faulty t f names has is) (Outcome.found r by) = absurd (named_not_unfinished o p r.breadth r.finish t f by names has)
+  common (Outcome.finish_faulty t f names has is) (Outcome.breadth_faulty g also is') = absurd (named_not_faulty o.breadth p None t g names also)
+  common (Outcome.finish_faulty t f names has is) (Outcome.finish_faulty x g others also is') =
+      inr (inl (is ∙ (ap (λ z. refused (FinishFaulty z)) (one_finish_fault o p t x f g names others has also) ∙ sym is')))
 
-  both_stop : (a b : Answer) (r : Stops options p a) (s : Stops options p b) → IsEnded a ⊎ IsOver p r.breadth r.finish a → IsEnded b ⊎ IsOver p s.breadth s.finish b → IsSame a b
-  both_stop a b r s (inl ended) other = inl (inl ended)
-  both_stop a b r s (inr o) (inl ended) = inl (inr ended)
-  both_stop a b r s (inr x) (inr y) =
-      let here : IsTextOver p r.breadth r.finish y.bytes =
-      over_both (λ t u. IsTextOver p t u y.bytes) s.breadth s.finish r.breadth r.finish (one_naming options p s.breadth s.finish r.breadth r.finish s.named r.named) y.over in
-      inr (x.is ∙ (ap (λ n. stop (text_over_line n)) (one_length r.breadth r.finish x.bytes y.bytes x.over here) ∙ sym y.is))
+same_templates : (o : Options) → HaveSameTemplates o o
+same_templates o = record { breadth = refl; finish = refl }
 
-  pub one_search : (a b : Answer) → Searches options p a → Searches options p b → IsSame a b
-  one_search a b (Searches.report x) (Searches.report y) = inr (one_report options p a b x y)
-  one_search a b (Searches.report x) (Searches.stopped y) = inl (inr (report_stop a b x y (stop_kind b y)))
-  one_search a b (Searches.stopped x) (Searches.report y) = inl (inl (report_stop b a y x (stop_kind a x)))
-  one_search a b (Searches.stopped x) (Searches.stopped y) = both_stop a b x y (stop_kind a x) (stop_kind b y)
-  one_search a b (Searches.report x) (Searches.breadth_faulty f has is) = absurd (named_not_faulty options.breadth p None x.breadth f x.named.breadth has)
-  one_search a b (Searches.stopped x) (Searches.breadth_faulty f has is) = absurd (named_not_faulty options.breadth p None x.breadth f x.named.breadth has)
-  one_search a b (Searches.report x) (Searches.finish_faulty t f by has is) = absurd (named_not_unfinished options p x.breadth x.finish t f x.named by has)
-  one_search a b (Searches.stopped x) (Searches.finish_faulty t f by has is) = absurd (named_not_unfinished options p x.breadth x.finish t f x.named by has)
-  one_search a b (Searches.breadth_faulty f has is) (Searches.report y) = absurd (named_not_faulty options.breadth p None y.breadth f y.named.breadth has)
-  one_search a b (Searches.breadth_faulty f has is) (Searches.stopped y) = absurd (named_not_faulty options.breadth p None y.breadth f y.named.breadth has)
-  one_search a b (Searches.breadth_faulty f has is) (Searches.breadth_faulty g has' is') = inr (is ∙ (ap (λ x. refused (BreadthFaulty x)) (one_named_fault options.breadth p None f g has has') ∙ sym is'))
-  one_search a b (Searches.breadth_faulty f has is) (Searches.finish_faulty t g by has' is') = absurd (named_not_faulty options.breadth p None t f by has)
-  one_search a b (Searches.finish_faulty t f by has is) (Searches.report y) = absurd (named_not_unfinished options p y.breadth y.finish t f y.named by has)
-  one_search a b (Searches.finish_faulty t f by has is) (Searches.stopped y) = absurd (named_not_unfinished options p y.breadth y.finish t f y.named by has)
-  one_search a b (Searches.finish_faulty t f by has is) (Searches.breadth_faulty g has' is') = absurd (named_not_faulty options.breadth p None t g by has')
-  one_search a b (Searches.finish_faulty t f by has is) (Searches.finish_faulty v g by' has' is') =
-      inr (is ∙ (ap (λ x. refused (FinishFaulty x)) (one_finish_fault options p t v f g by by' has has') ∙ sym is'))
+pub common_searches : (o v : Options) (p : Protocol) (a b : Answer) → HaveSameTemplates o v → Searches o p a → Searches v p b → Common o v a b
+common_searches o v p a b same x y = common o o v p a b (outcome o o (same_templates o) p a x) (outcome o v same p b y)
+
+-- the same status and text are told alike
+one_telling : (m n : ℕ) (x y : List ℕ) (a b : Answer) → (m ≡ n) × (x ≡ y) → TellsReport m x a → TellsReport n y b → a ≡ b
+one_telling m n x y a b same (TellsReport.told few is) (TellsReport.told few' is') =
+    is ∙ (ap (λ k. record { status = k; text = x; line = [] }) same.0 ∙ (ap (λ z. record { status = n; text = z; line = [] }) same.1 ∙ sym is'))
+one_telling m n x y a b same (TellsReport.told few is) (TellsReport.over many is') = absurd (omega (arith, ap length same.1, few, many))
+one_telling m n x y a b same (TellsReport.over many is) (TellsReport.told few is') = absurd (omega (arith, ap length same.1, few, many))
+one_telling m n x y a b same (TellsReport.over many is) (TellsReport.over many' is') = is ∙ (ap (λ z. stop (text_over_line (length z))) same.1 ∙ sym is')
+
+-- what one worker finds is told in one way
+one_finding : (o : Options) (a b : Answer) → o.workers ≡ 1 → FindTheSame o o a b → a ≡ b
+one_finding o a b one f =
+    let names : (f.one.breadth ≡ f.other.breadth) × (f.one.finish ≡ f.other.finish) =
+    one_naming o f.protocol f.one.breadth f.one.finish f.other.breadth f.other.finish f.one.named f.other.named in
+    one_telling f.one.status f.other.status f.one.text f.other.text a b
+    (one_text f.protocol f.one.breadth f.one.finish f.other.breadth f.other.finish names o.workers f.one.status f.other.status f.one.text f.other.text one f.one.report f.other.report)
+    f.one.tells f.other.tells
+
+-- with one worker a protocol has one answer to a search, but for a query that ended it
+pub one_search : (o : Options) (p : Protocol) (a b : Answer) → o.workers ≡ 1 → Searches o p a → Searches o p b → (IsEnded a ⊎ IsEnded b) ⊎ (a ≡ b)
+one_search o p a b one x y = told (common_searches o o p a b (same_templates o) x y)
+  where
+    told : Common o o a b → (IsEnded a ⊎ IsEnded b) ⊎ (a ≡ b)
+    told (inl lost) = inl lost
+    told (inr (inl same)) = inr same
+    told (inr (inr both)) = inr (one_finding o a b one both)

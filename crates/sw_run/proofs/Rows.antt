@@ -16,7 +16,7 @@ use Rattle.sw_protocol.specs.Stratified.{IsText}
 use Rattle.sw_words.specs.declared.commands.Command.{Command}
 use Rattle.sw_words.specs.declared.commands.Command.TheVariants.{Synth, Certify, Space, Print, Check, Drill}
 use Rattle.sw_words.specs.declared.commands.Options.{Options}
-use Rattle.sw_run.specs.Words.{has_one_worker, is_check, is_served}
+use Rattle.sw_run.specs.Words.{is_check, is_served}
 use Rattle.sw_run.specs.Ending.{Change, Answer, Faults, Misreads, Reads, Searches, Names, NamesFault, NamesBy, Prints, Sizes, IsInput, IsSpelled, IsUntouched, Allowed, AllowedCheck, refused, answer_of, told_answer}
 use Rattle.sw_run.specs.Giving.{Gives, GivesNone}
 use Rattle.sw_run.specs.Refusals.{input_refusal, space_refusal}
@@ -90,9 +90,9 @@ pub was_read : (input : Change) (Answers : Protocol → Answer → Type 0) (p : 
 was_read input Answers p r spelled (inl is) = inl (Reads.read p spelled is)
 was_read input Answers p r spelled (inr lacks) = inr (ap answer_of lacks)
 
-pub synth_row : (o : Options) (input : Change) (a : Answer) → has_one_worker o ≡ true → Reads input (Searches o) a ⊎ (a ≡ refused NoMemory) → Allowed (Some (Synth o)) input a
-synth_row o input a plain (inl reads) = Allowed.synth o refl plain reads
-synth_row o input a plain (inr lacks) = Allowed.no_memory lacks
+pub synth_row : (o : Options) (input : Change) (a : Answer) → Reads input (Searches o) a ⊎ (a ≡ refused NoMemory) → Allowed (Some (Synth o)) input a
+synth_row o input a (inl reads) = Allowed.synth o refl reads
+synth_row o input a (inr lacks) = Allowed.no_memory lacks
 
 pub print_row : (input : Change) (a : Answer) → Reads input Prints a ⊎ (a ≡ refused NoMemory) → Allowed (Some Print) input a
 print_row input a (inl reads) = Allowed.print refl reads
@@ -123,7 +123,7 @@ printed_text p text is = ap (λ t. record { status = 0; text = t; line = [] }) i
 -- ---- searches
 
 -- what a search told, with the templates that the options name
-pub told_searches : (o : Options) (p : Protocol) (t u : Option Template) (told : Told) → NamesBy o p t u → IsTold p t u o.conflicts told → Searches o p (told_answer told)
+pub told_searches : (o : Options) (p : Protocol) (t u : Option Template) (told : Told) → NamesBy o p t u → IsTold p t u o.workers o.conflicts told → Searches o p (told_answer told)
 told_searches o p t u (telling.Report status text) by is = Searches.report (record { breadth = t; finish = u; named = by; report = is.0; within = is.1; line = refl })
 told_searches o p t u (telling.Stopped line) by is = Searches.stopped (record { breadth = t; finish = u; named = by; ended = is; is = refl })
 
@@ -136,7 +136,7 @@ search_refused o p e (Err x) is (inr lacks) = inr (ap Err (is ∙ lacks))
 
 -- an answer that is what was told
 pub answer_searches : (o : Options) (p : Protocol) (first last : Option Made) (told : Told) (r : Result Report Refusal) → Gives o.breadth p None first → Gives o.finish p (template_of first) last
-    → IsTold p (template_of first) (template_of last) o.conflicts told → answer_of r ≡ told_answer told → Searches o p (answer_of r) ⊎ (r ≡ Err NoMemory)
+    → IsTold p (template_of first) (template_of last) o.workers o.conflicts told → answer_of r ≡ told_answer told → Searches o p (answer_of r) ⊎ (r ≡ Err NoMemory)
 answer_searches o p first last told r breadth finish is same =
     inl (subst (Searches o p) (sym same) (told_searches o p (template_of first) (template_of last) told (record { breadth = breadth.named; finish = finish.named }) is))
 

@@ -65,7 +65,7 @@ size_is_not_6 text a p (Sizes.faulty f has is) e = refused_is_not_6 a (SpaceFaul
 run_is_not_6 : (command : Option Command) (input : Change) (a : Answer) → Allowed command input a → IsNot6 a
 run_is_not_6 command input a (Allowed.usage none u is) = refused_is_not_6 a Usage is
 run_is_not_6 command input a (Allowed.unserved c some off u is) = refused_is_not_6 a Unbuilt is
-run_is_not_6 command input a (Allowed.synth o some plain reads) = read_is_not_6 input (Searches o) a (search_is_not_6 o a) reads
+run_is_not_6 command input a (Allowed.synth o some reads) = read_is_not_6 input (Searches o) a (search_is_not_6 o a) reads
 run_is_not_6 command input a (Allowed.space text some reads) = read_is_not_6 input (Sizes text) a (size_is_not_6 text a) reads
 run_is_not_6 command input a (Allowed.print some reads) = read_is_not_6 input Prints a (print_is_not_6 a) reads
 run_is_not_6 command input a (Allowed.no_memory is) = refused_is_not_6 a NoMemory is

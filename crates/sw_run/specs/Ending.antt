@@ -12,7 +12,7 @@ use Rattle.sw_protocol.specs.Stratified.{IsText}
 use Rattle.sw_words.specs.declared.commands.Command.{Command}
 use Rattle.sw_words.specs.declared.commands.Command.TheVariants.{Synth, Space, Print}
 use Rattle.sw_words.specs.declared.commands.Options.{Options}
-use Rattle.sw_run.specs.Words.{has_one_worker, is_served, asks_check}
+use Rattle.sw_run.specs.Words.{is_served, asks_check}
 use Rattle.sw_run.specs.Refusals.{input_refusal, refusal_status, refusal_line}
 use Rattle.sw_run.specs.declared.input.TheConstants.{INPUT_LIMIT}
 use Rattle.sw_run.specs.declared.told.Refusal.{Refusal}
@@ -108,12 +108,12 @@ pub record NamesBy (options : Options) (p : Protocol) (t u : Option Template) : 
   pub breadth : Names options.breadth p None t
   pub finish : Names options.finish p t u
 
--- a report on the protocol, with the templates that the options name
+-- a report on the protocol, with the templates and the number of workers that the options name
 pub record Reports (options : Options) (p : Protocol) (a : Answer) : Type 0 where
   pub breadth : Option Template
   pub finish : Option Template
   pub named : NamesBy options p breadth finish
-  pub report : IsReport p breadth finish a.status a.text
+  pub report : IsReport p breadth finish options.workers a.status a.text
   pub within : length a.text ≤ OUTPUT_LIMIT
   pub line : a.line ≡ []
 
@@ -126,7 +126,7 @@ pub record Stops (options : Options) (p : Protocol) (a : Answer) : Type 0 where
   pub breadth : Option Template
   pub finish : Option Template
   pub named : NamesBy options p breadth finish
-  pub ended : IsStopped p breadth finish options.conflicts a.line
+  pub ended : IsStopped p breadth finish options.workers options.conflicts a.line
   pub is : a ≡ stop a.line
 
 -- what a search answers of a protocol: a fault of the text to finish with is told where the other text has none
@@ -163,7 +163,7 @@ pub data Sizes (text : List ℕ) (p : Protocol) (a : Answer) : Type 0 where
 pub data Allowed (command : Option Command) (input : Change) (a : Answer) : Type 0 where
   usage : command ≡ None → IsUntouched input → a ≡ refused Usage → Allowed command input a
   unserved : (c : Command) → command ≡ Some c → is_served c ≡ false → IsUntouched input → a ≡ refused Unbuilt → Allowed command input a
-  synth : (options : Options) → command ≡ Some (Synth options) → has_one_worker options ≡ true → Reads input (Searches options) a → Allowed command input a
+  synth : (options : Options) → command ≡ Some (Synth options) → Reads input (Searches options) a → Allowed command input a
   space : (text : List ℕ) → command ≡ Some (Space text) → Reads input (Sizes text) a → Allowed command input a
   print : command ≡ Some Print → Reads input Prints a → Allowed command input a
   no_memory : a ≡ refused NoMemory → Allowed command input a

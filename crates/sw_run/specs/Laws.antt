@@ -1,4 +1,4 @@
--- The laws of the endings: the causes of different answers never stand together, and the words and the bytes of the input fix the answer.
+-- The laws of the endings: the causes of different answers never stand together, and the words and the bytes of the input fix the answer, or what it says.
 use Rattle.std.specs.Prelude.{◌≡◌, ◌⊎◌, ◌<◌, ◌≤◌, ℕ, true, false, List, [], ◌∷◌, ◌++◌, map, length, Option, Some, None, Ok, Err}
 use Rattle.sw_logic.specs.declared.syntax.Formula.{Formula}
 use Rattle.sw_logic.specs.declared.structure.Structure.{Structure}
@@ -6,12 +6,13 @@ use Rattle.sw_logic.specs.Truth.{AreTrueIn, IsTrueIn}
 use Rattle.sw_meaning.specs.declared.protocol.Protocol.{Protocol}
 use Rattle.sw_meaning.specs.Runs.{Reached}
 use Rattle.sw_meaning.specs.Verdict.{Word}
+use Rattle.sw_meaning.specs.Laws.{SameWord, OneMeaning}
 use Rattle.sw_protocol.specs.Stratified.{IsText}
 use Rattle.sw_words.specs.declared.commands.Command.{Command}
 use Rattle.sw_words.specs.declared.commands.Command.TheVariants.{Synth, Space, Print}
 use Rattle.sw_words.specs.declared.commands.Options.{Options}
 use Rattle.sw_meaning.specs.declared.template.Template.{Template}
-use Rattle.sw_run.specs.Words.{has_one_worker, is_served, asks_check}
+use Rattle.sw_run.specs.Words.{is_served, asks_check}
 use Rattle.sw_edge.specs.Edge.{Rose}
 use Rattle.sw_run.specs.Ending.{Change, Answer, Faults, Reads, Searches, Reports, Stops, Names, NamesFault, NamesBy, Prints, Sizes, IsTooLong, IsUntouched, Allowed, AllowedCheck, Ends, refused, stop, sized}
 use Rattle.sw_run.specs.declared.input.TheConstants.{INPUT_LIMIT}
@@ -20,8 +21,9 @@ use Rattle.sw_run.specs.declared.told.Refusal.TheVariants.{Usage, TooLong, Space
 use Rattle.sw_space.specs.declared.faults.SpaceFault.{SpaceFault}
 use Rattle.sw_space.specs.Named.{HasSpace}
 use Rattle.sw_logic.specs.declared.syntax.Signature.{Signature}
-use Rattle.sw_report.specs.Words.{Query, word_status}
-use Rattle.sw_search.specs.Searches.{Ended, ended_line}
+use Rattle.sw_report.specs.declared.report.TheConstants.{OUTPUT_LIMIT}
+use Rattle.sw_report.specs.Words.{Query, word_status, text_over_line}
+use Rattle.sw_search.specs.Searches.{Ended, ended_line, IsReport}
 
 -- want of memory
 abbrev pub LacksMemory : Answer → Type 0
@@ -50,12 +52,11 @@ pub record Tells (input : Change) : Type 0 where
   pub now : input.now ≡ Some last
 
 -- the words choose the row, but for want of memory: where they are no command, usage is the one
--- answer; where they are one that is not served, that is; a search that is served, `space` and `print`
--- are answered as what they read says; and `run_check` gives `space`, `print` and `check` the answers of `run`
+-- answer; where they are one that is not served, that is; `synth`, `space` and `print` are answered as what they read says; and `run_check` gives `space`, `print` and `check` the answers of `run`
 pub record WordsChoose (command : Option Command) (input : Change) (a : Answer) : Type 0 where
   pub usage : command ≡ None → Allowed command input a → IsRefusedUnread Usage input a ⊎ LacksMemory a
   pub unserved : (c : Command) → command ≡ Some c → is_served c ≡ false → Allowed command input a → IsRefusedUnread Unbuilt input a ⊎ LacksMemory a
-  pub synth : (options : Options) → command ≡ Some (Synth options) → has_one_worker options ≡ true → Allowed command input a → Reads input (Searches options) a ⊎ LacksMemory a
+  pub synth : (options : Options) → command ≡ Some (Synth options) → Allowed command input a → Reads input (Searches options) a ⊎ LacksMemory a
   pub space : (text : List ℕ) → command ≡ Some (Space text) → Allowed command input a → Reads input (Sizes text) a ⊎ LacksMemory a
   pub print : command ≡ Some Print → Allowed command input a → Reads input Prints a ⊎ LacksMemory a
   pub check_usage : asks_check command ≡ false → AllowedCheck command input a → IsRefusedUnread Usage input a ⊎ LacksMemory a
@@ -89,9 +90,28 @@ RowsExcludeEachOther =
     × ((options : Options) (p : Protocol) (a : Answer) → SearchChooses options p a)
     × ((text : List ℕ) (p : Protocol) (a : Answer) → SizeChooses text p a)
 
--- the options and the protocol fix a report, each byte of it
+-- with one worker the options and the protocol fix a report, each byte of it
 abbrev pub OneReport : Type 0
-OneReport = (options : Options) (p : Protocol) (a b : Answer) → Reports options p a → Reports options p b → a ≡ b
+OneReport = (options : Options) (p : Protocol) (a b : Answer) → options.workers ≡ 1 → Reports options p a → Reports options p b → a ≡ b
+
+-- the same texts of templates, whatever the numbers of workers and the budgets
+pub record HaveSameTemplates (o v : Options) : Type 0 where
+  pub breadth : o.breadth ≡ v.breadth
+  pub finish : o.finish ≡ v.finish
+
+-- two reports say the same: they tell of the classes of one template, their status and their word are one, whichever formula joins, and
+-- each formula of the one list follows from the other list
+pub record SayTheSame (p : Protocol) (t u : Option Template) (m n : ℕ) (w v : Word) (g h : List Formula) : Type 0 where
+  pub template : t ≡ u
+  pub status : m ≡ n
+  pub word : SameWord w v
+  pub lists : OneMeaning p g h
+
+-- with any numbers of workers, and whatever the schedules, two reports on a protocol say the same
+abbrev pub ReportsSayTheSame : Type 0
+ReportsSayTheSame =
+    (o v : Options) (p : Protocol) (a b : Answer) → HaveSameTemplates o v → (r : Reports o p a) (s : Reports v p b)
+    → SayTheSame p r.breadth s.breadth a.status b.status r.report.word s.report.word r.report.list s.report.list
 
 -- what a report with this list, this word and this status promises of a reached structure: every formula of the list is true in it; where
 -- the status is 0, safety is; and where the word has a formula, that is true in it too
@@ -105,13 +125,47 @@ abbrev pub SafeMeansSafe : Type 0
 SafeMeansSafe =
     (options : Options) (p : Protocol) (a : Answer) (r : Reports options p a) (s : Structure) → Reached p s → Promises p r.report.list r.report.word a.status s
 
+-- the words are no search by more than one worker
+abbrev pub HasOneWorker : Option Command → Type 0
+HasOneWorker (Some (Synth options)) = options.workers ≡ 1
+HasOneWorker command = Unit {0}
+
 -- the words and the bytes that the source told fix the answer, but for want of memory, failed reads
--- and queries that end a search: of `run`, and of `run_check`
+-- and queries that end a search: of `run`, where they are no search by more than one worker, and of `run_check`
 abbrev pub OneAnswer : Type 0
 OneAnswer =
     (command : Option Command) (i j : Change) (bytes : List ℕ) (a b : Answer) → i.before ≡ Some bytes → j.before ≡ Some bytes
-    → (Allowed command i a → Allowed command j b → (IsLost a ⊎ IsLost b) ⊎ (a ≡ b))
+    → (HasOneWorker command → Allowed command i a → Allowed command j b → (IsLost a ⊎ IsLost b) ⊎ (a ≡ b))
     × (AllowedCheck command i a → AllowedCheck command j b → (IsLost a ⊎ IsLost b) ⊎ (a ≡ b))
+
+-- a report is told, or that its text is too long
+pub data TellsReport (status : ℕ) (text : List ℕ) (a : Answer) : Type 0 where
+  told : length text ≤ OUTPUT_LIMIT → a ≡ record { status = status; text = text; line = [] } → TellsReport status text a
+  over : OUTPUT_LIMIT < length text → a ≡ stop (text_over_line (length text)) → TellsReport status text a
+
+-- a search found a list and its word, and tells the report of them where it is not too long
+pub record Finds (options : Options) (p : Protocol) (a : Answer) : Type 0 where
+  pub breadth : Option Template
+  pub finish : Option Template
+  pub named : NamesBy options p breadth finish
+  pub status : ℕ
+  pub text : List ℕ
+  pub report : IsReport p breadth finish options.workers status text
+  pub tells : TellsReport status text a
+
+-- two searches of one protocol found what says the same
+pub record FindTheSame (o v : Options) (a b : Answer) : Type 0 where
+  pub protocol : Protocol
+  pub one : Finds o protocol a
+  pub other : Finds v protocol b
+  pub same : SayTheSame protocol one.breadth other.breadth one.status other.status one.report.word other.report.word one.report.list other.report.list
+
+-- two answers to searches with the same templates, by any numbers of workers, of the bytes that the source told: but for want of memory,
+-- failed reads and queries that end a search, they are one, or both searches found what says the same
+abbrev pub AnswersSayTheSame : Type 0
+AnswersSayTheSame =
+    (o v : Options) (i j : Change) (bytes : List ℕ) (a b : Answer) → HaveSameTemplates o v → i.before ≡ Some bytes → j.before ≡ Some bytes
+    → Allowed (Some (Synth o)) i a → Allowed (Some (Synth v)) j b → (IsLost a ⊎ IsLost b) ⊎ ((a ≡ b) ⊎ FindTheSame o v a b)
 
 -- the sink failed
 abbrev pub Failed : Change → Type 0

@@ -1,17 +1,12 @@
 -- Which commands are served, and which need no workers.
-use Rattle.std.specs.Prelude.{◌==◌, Bool, true, false, Option}
+use Rattle.std.specs.Prelude.{Bool, true, false, Option}
 use Rattle.std.specs.Option.{option_map_or}
 use Rattle.sw_words.specs.declared.commands.Command.{Command}
 use Rattle.sw_words.specs.declared.commands.Command.TheVariants.{Synth, Space, Print, Check}
-use Rattle.sw_words.specs.declared.commands.Options.{Options}
 
--- a search that is served
-abbrev pub has_one_worker : Options → Bool
-has_one_worker options = options.workers == 1
-
--- a command that is served, as far as the words decide it
+-- a command that is served
 abbrev pub is_served : Command → Bool
-is_served (Synth options) = has_one_worker options
+is_served (Synth options) = true
 is_served (Space text) = true
 is_served Print = true
 is_served _ = false

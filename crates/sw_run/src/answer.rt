@@ -12,9 +12,9 @@ ghost use Rattle.sw_run.specs.Giving.{Gives, GivesNone};
 use crate::input::read_input;
 use crate::report::Report;
 use crate::told::Refusal;
-use crate::words::has_one_worker;
 use std::alloc::Global;
 use std::sync::Wait;
+use std::thread::Threads;
 use sw_edge::{Gate, Source};
 use sw_enumerate::Space;
 use sw_meaning::Template;
@@ -98,13 +98,14 @@ fn template_of(space: Option<&Space>) -> Option<&Template>
 }
 
 // The answer to a search of the protocol: the first fault of its templates, or what the search tells.
-fn search_protocol<H: Wait, G: Gate>(
+fn search_protocol<H: Threads + Wait + Sync, G: Gate + Sync>(
     rt: &H,
     alloc: Global,
     options: &Options,
     protocol: &Protocol,
     gate: &G,
 ) -> Result<Report, Refusal>
+    requires workers { (1 ≤ options.now.workers) × (options.now.workers ≤ 64) }
     requires some { IfSome options.now.conflicts (λ most. 1 ≤ most) }
     requires well_formed { IsWellFormed protocol.now }
     requires stratified { IsStratifiedWith protocol.now [] }
@@ -114,27 +115,26 @@ fn search_protocol<H: Wait, G: Gate>(
     let first = breadth.as_ref();
     let finish = finish_space(alloc, options, protocol, template_of(first))?;
     let last = finish.as_ref();
-    let told = search(rt, alloc, protocol, first, last, options.conflicts, gate)?;
+    let workers = options.workers;
+    let budget = options.conflicts;
+    let told = search(rt, alloc, protocol, first, last, workers, budget, gate)?;
     answer_told(told)
 }
 
-// The answer to a search: what the words alone show not to be served, then what reading meets, then
-// what the search tells.
-fn synth<H: Wait, S: Source, G: Gate>(
+// The answer to a search: what reading meets, then what the search tells.
+fn synth<H: Threads + Wait + Sync, S: Source, G: Gate + Sync>(
     rt: &H,
     alloc: Global,
     options: &Options,
     source: &mut S,
     gate: &G,
 ) -> Result<Report, Refusal>
+    requires workers { (1 ≤ options.now.workers) × (options.now.workers ≤ 64) }
     requires some { IfSome options.now.conflicts (λ most. 1 ≤ most) }
     ensures { Allowed (Some (Command.Synth options.now))
         (change (S.left source.old) (S.left source.new) (S.faults source.old) (S.faults source.new))
         (answer_of result) }
 {
-    if !has_one_worker(options) {
-        return Err(Refusal::Unbuilt);
-    }
     let protocol = read_input(alloc, source)?;
     search_protocol(rt, alloc, options, &protocol, gate)
 }
@@ -189,7 +189,7 @@ fn check<S: Source>(alloc: Global, command: &Command, source: &mut S) -> Result<
 
 /// The report that the words ask for on the input, or why there is none. Usage comes first; memory
 /// may run out at any place.
-pub fn answer<H: Wait, S: Source, G: Gate>(
+pub fn answer<H: Threads + Wait + Sync, S: Source, G: Gate + Sync>(
     rt: &H,
     alloc: Global,
     words: &[String],

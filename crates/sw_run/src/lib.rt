@@ -8,7 +8,6 @@ pub mod laws;
 mod report;
 mod told;
 mod top;
-mod words;
 
 pub use faults::Fault;
 pub use report::Report;

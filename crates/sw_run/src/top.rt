@@ -18,8 +18,8 @@ pub type Status = u8;
 
 /// Runs the command that the words name, which are given without the program's name: reads the
 /// whole source, and writes a report to `out` or the line of a refusal to `err`. The text is made
-/// whole before its first byte is written. The runtime is for the workers' threads; as yet there is
-/// one worker, which needs none.
+/// whole before its first byte is written. The runtime is for the threads of a search's workers, who
+/// pass the gate at the same time.
 pub fn run<H: Threads + Wait + Sync, S: Source, O: Sink, E: Sink, G: Gate + Sync>(
     rt: &H,
     alloc: Global,

@@ -32,3 +32,5 @@ mod structures;
 mod truths;
 #[cfg(test)]
 mod walks;
+#[cfg(test)]
+mod workers;

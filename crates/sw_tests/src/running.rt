@@ -75,6 +75,13 @@ pub fn check_on(
     })
 }
 
+/// Asserts that a run ended with this status and one of these texts for `out`.
+pub fn is_either<R: Abort>(rt: &R, ended: &Ended, status: u8, one: &str, other: &str) {
+    assert!(rt; ended.err.is_empty());
+    assert!(rt; ended.out.as_slice() == one.as_bytes() || ended.out.as_slice() == other.as_bytes());
+    assert_eq!(rt; ended.status, status);
+}
+
 /// Asserts what a run ended with.
 pub fn is_ended<R: Abort>(rt: &R, ended: &Ended, status: u8, out: &str, err: &str) {
     assert_eq!(rt; ended.err.as_slice(), err.as_bytes());

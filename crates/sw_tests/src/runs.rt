@@ -7,16 +7,19 @@ use std::test::Fail;
 use std::thread::Threads;
 use sw_edge::{OpenGate, Turn};
 
-const SWAP: &str =
+pub const SWAP: &str =
     "mutable relation a; mutable relation b; init a & !b; transition swap modifies a, b: a & !b & !a' & b'; safety !(a & b);";
 
-const SWAP_REPORT: &str =
+pub const SWAP_REPORT: &str =
     "classes 10\ninvariant a | b\ninvariant !a | !b\nclosed under single formulas\nverdict safe\n";
 
 const SORTS: &str = "sort node; mutable relation p(node);";
 
-const TOKEN: &str =
+pub const TOKEN: &str =
     "sort node; mutable relation holds(node); immutable constant first: node; init forall N: node. holds(N) <-> N = first; transition pass(a: node, b: node) modifies holds: holds(a) & (forall N: node. holds'(N) <-> N = b); safety forall A: node, B: node. holds(A) & holds(B) -> A = B;";
+
+pub const TOKEN_REPORT: &str =
+    "classes 298\ninvariant forall _1: node, _2: node. !holds(_1) | !holds(_2) | _1 = _2\nclosed under single formulas\nverdict safe\n";
 
 // Four pigeons, each in one of three holes, and no two in the same.
 const PIGEONS: &str =
@@ -86,14 +89,14 @@ static REPORTS: [(&str, &str, u8, &str); 16] = [
         "synth|--breadth|forall 2 node literals 3",
         TOKEN,
         0,
-        "classes 298\ninvariant forall _1: node, _2: node. !holds(_1) | !holds(_2) | _1 = _2\nclosed under single formulas\nverdict safe\n",
+        TOKEN_REPORT,
     ),
     // a budget that is not spent changes nothing
     (
         "synth|--breadth|forall 2 node literals 3|--conflicts|1000000",
         TOKEN,
         0,
-        "classes 298\ninvariant forall _1: node, _2: node. !holds(_1) | !holds(_2) | _1 = _2\nclosed under single formulas\nverdict safe\n",
+        TOKEN_REPORT,
     ),
     // what holds of all nodes at the start holds of one, since there is one
     (
@@ -206,13 +209,13 @@ static REFUSED: [(&str, &str, u8, &str); 11] = [
 const THIRD: &str =
     "mutable relation x; mutable relation y; mutable relation z; init !x & !y & !z; transition t modifies x: y & x'; transition u modifies y: (x | z) & y'; safety !x;";
 
-const UNSETTLED: &str =
+pub const UNSETTLED: &str =
     "mutable relation x; mutable relation y; init !x & !y; transition t modifies x: y & x'; safety !x;";
 
 const SET: &str = "mutable relation a; init !a; transition set modifies a: a'; safety !a;";
 
 // Searches with a template to finish with, and the status and the report that they have.
-static FINISHED: [(&str, &str, u8, &str); 9] = [
+pub static FINISHED: [(&str, &str, u8, &str); 9] = [
     // the formula that joins shows safety, which is open without it
     (
         "synth|--finish|literals 1",
@@ -329,12 +332,12 @@ static UNREAD: [(&str, u8, &str); 15] = [
     ("certify|--breadth|literals 2", 3, "swiss: Unbuilt\n"),
     ("check", 3, "swiss: Unbuilt\n"),
     ("drill|6", 3, "swiss: Unbuilt\n"),
-    ("synth|--workers|2", 3, "swiss: Unbuilt\n"),
-    ("synth|--finish|x|--workers|2", 3, "swiss: Unbuilt\n"),
-    // and three that do read
+    // and five that do read
     ("space|literals 2", 5, "swiss: read fault\n"),
     ("synth", 5, "swiss: read fault\n"),
     ("synth|--finish|x", 5, "swiss: read fault\n"),
+    ("synth|--workers|2", 5, "swiss: read fault\n"),
+    ("synth|--finish|x|--workers|64", 5, "swiss: read fault\n"),
 ];
 
 // The same of the call that needs no threads.

@@ -2,11 +2,14 @@ use Rattle.std.specs.Prelude.{map, string_bytes}
 use Rattle.std.proofs.Common.{refl}
 use Rattle.sw_run.specs.Ending.{Allowed}
 use Rattle.sw_run.proofs.Rows.{check_allowed, other_is_check, unserved_kind}
-use Rattle.sw_run.proofs.Budgets.{synth_some}
+use Rattle.sw_run.proofs.Bounds.{synth_within}
 use Rattle.sw_run.proofs.answer.answer.Goals as goal
 
 pub synth-requires : goal.synth-requires
-synth-requires g c = record { some = synth_some (map string_bytes c.args.words.now) c.in_ok-command.command c.in-Synth.options c.in_ok-command.ensures.command c.in-Synth.is }
+synth-requires g c = (
+  c.type_bounds.sync-H,
+  (c.type_bounds.sync-G, synth_within (map string_bytes c.args.words.now) c.in_ok-command.command c.in-Synth.options c.in_ok-command.ensures.command c.in-Synth.is),
+)
 
 pub returns-in-Certify : goal.returns-in-Certify
 returns-in-Certify g c =

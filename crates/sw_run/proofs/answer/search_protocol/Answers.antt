@@ -19,7 +19,7 @@ returns-in_err-finish g c =
     search_refused c.args.options.now c.args.protocol.now c.in_err-finish.field-0.0 c.from_residual-in_err-finish.result c.from_residual-in_err-finish.ensures.1 c.in_err-finish.ensures.refused
 
 pub search-requires-clause-can : goal.search-requires-clause-can
-search-requires-clause-can g c =
+search-requires-clause-can g c = λ _ _.
     can_search c.args.protocol.now c.args.options.now _ _ (gives_same _ _ _ _ _ _ refl c.as_ref-first.ensures.value c.in_ok-breadth.ensures.gives)
     (gives_same _ _ _ _ _ _ c.template_of.ensures c.as_ref-last.ensures.value c.in_ok-finish.ensures.gives) c.requires.stratified
 
