@@ -9,7 +9,7 @@ use Rattle.std.proofs.Math.Seq.{take-append_seam, drop-append_seam}
 use Rattle.sw_logic.specs.declared.syntax.Formula.{Formula}
 use Rattle.sw_lists.proofs.Each.{each-both, each-weaker, each-any}
 use Rattle.sw_filter.specs.declared.filter.Filter.{Filter}
-use Rattle.sw_core.specs.declared.record.Entry.{Entry}
+use Rattle.sw_log.specs.declared.entry.Entry.{Entry}
 use Rattle.sw_core.specs.declared.record.Settled.{Settled}
 use Rattle.sw_core.specs.declared.steps.Step.TheVariants.{Begin, Close}
 use Rattle.sw_core.specs.Machine.{Search, Board, Part, IsDone, parts_in, start, after}

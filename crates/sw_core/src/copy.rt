@@ -5,14 +5,8 @@ use crate::record::{Kept, Settled};
 use sqlite_items::Items;
 use std::alloc::{AllocError, Global};
 use sw_filter::Filter;
+use sw_log::copy_body;
 use sw_logic::{Pair, copy_structure};
-use sw_template::Body;
-
-pub fn copy_body(alloc: Global, body: &Body) -> Result<Body, AllocError>
-    ensures { IfOk result (λ b. b ≡ body.now) }
-{
-    Body::of_list(alloc, body.template(), body.cubes())
-}
 
 pub fn copy_settled(alloc: Global, settled: &Settled) -> Result<Settled, AllocError>
     ensures { IfOk result (λ s. s ≡ settled.now) }

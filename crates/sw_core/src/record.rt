@@ -1,15 +1,8 @@
 //! What a run leaves behind: who drew, appended, kept and settled what.
 use sqlite_items::Items;
 use sw_filter::Filter;
+pub use sw_log::Entry;
 use sw_template::Body;
-
-/// An entry of the log: what a worker appended at the place `under`.
-#[derive(Drop)]
-pub struct Entry {
-    pub body: Body,
-    pub worker: u32,
-    pub under: u32,
-}
 
 /// A part that a worker is done with: each of its classes is good under the first `under` formulas of
 /// the log, by the filters at the places `by`.

@@ -10,7 +10,7 @@ ghost use Rattle.sw_template.specs.Prefix.{variable_count};
 ghost use Rattle.sw_enumerate.specs.Spaces.{IsFor};
 ghost use Rattle.sw_meaning.specs.WellFormed.{IsWellFormed};
 
-use crate::copy::{copy_body, copy_kept, copy_settled};
+use crate::copy::{copy_kept, copy_settled};
 use crate::draws::Drawn;
 use crate::record::{Entry, Kept, Record, Round, Settled};
 use crate::state::State;
@@ -19,6 +19,7 @@ use sqlite_items::Items;
 use std::alloc::{AllocError, Global};
 use sw_enumerate::Space;
 use sw_filter::Mode;
+use sw_log::copy_body;
 use sw_logic::Formula;
 use sw_meaning::Protocol;
 

@@ -12,12 +12,18 @@ pub struct Entry {
     pub under: u32,
 }
 
+/// The same class.
+pub fn copy_body(alloc: Global, body: &Body) -> Result<Body, AllocError>
+    ensures { IfOk result (λ copy. copy ≡ body.now) }
+{
+    Body::of_list(alloc, body.template(), body.cubes())
+}
+
 fn copy_entry(alloc: Global, entry: &Entry) -> Result<Entry, AllocError>
     ensures { IfOk result (λ copy. copy ≡ entry.now) }
 {
-    let body = Body::of_list(alloc, entry.body.template(), entry.body.cubes())?;
     Ok(Entry {
-        body,
+        body: copy_body(alloc, &entry.body)?,
         worker: entry.worker,
         under: entry.under,
     })

@@ -5,7 +5,7 @@ pub mod entry;
 pub mod rule;
 pub mod seats;
 
-pub use entry::{Entry, copy_entries};
+pub use entry::{Entry, copy_body, copy_entries};
 pub use rule::LogView;
 pub use seats::{Appended, LogSeat, SharedLog};
 
