@@ -60,7 +60,7 @@ pub record IsHand (m : Search) (pool : Pool) (worker : ℕ) (formulas : List For
   pub same : filters_of kept ≡ map (λ (e : Shown). e.filter.now) shown
   pub each : AllByRecursion (IsKeptBy m worker formulas) kept
   pub fresh : AreFresh m formulas [] kept
-  pub tokens : AreTokens pool tokens shown
+  pub shows : AreTokens pool tokens shown
   pub marks : length used ≡ length kept
   pub live : AllByRecursion (IsLive m.protocol m.mode formulas) (used_filters kept used)
 
@@ -68,7 +68,7 @@ pub record IsHand (m : Search) (pool : Pool) (worker : ℕ) (formulas : List For
 pub record Grows (kept : List Kept) (used : List Bool) (kept_now : List Kept) (used_now : List Bool) : Type 0 where
   pub more : List Kept
   pub is : kept_now ≡ kept ++ more
-  pub used : (x : Filter) → Contains (used_filters kept used) x → Contains (used_filters kept_now used_now) x
+  pub still : (x : Filter) → Contains (used_filters kept used) x → Contains (used_filters kept_now used_now) x
 
 -- the class is good under the formulas by the filters used
 abbrev pub IsGoodBy : Search → List Formula → List Kept → List Bool → List ℕ → Type 0

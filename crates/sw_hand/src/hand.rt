@@ -7,13 +7,13 @@ ghost use Rattle.sw_hand.specs.Hands.{used_from};
 use sqlite_items::Items;
 use std::alloc::{AllocError, Global};
 use std::sync::Wait;
-use sw_walk::Walk;
 use sw_core::{Kept, Settled};
 use sw_filter::{Candidates, Filter, Mode, View};
 use sw_logic::Formula;
 use sw_meaning::Protocol;
 use sw_pool::{Cursor, Pool, Seen};
 use sw_template::Body;
+use sw_walk::Walk;
 
 /// What a worker works for: the classes of a space over a protocol, in a mode, as one of so many
 /// workers that share a pool.
@@ -100,7 +100,12 @@ impl<'a, B: Candidates + Walk> Task<'a, B> {
 
     /// Marks the filters under a list that begins with the one before, of which `from` is the length; none
     /// counts as used then.
-    pub fn advance(&self, hand: &mut Hand<'a, B>, formulas: &[Formula], from: usize) -> Result<(), AllocError>
+    pub fn advance(
+        &self,
+        hand: &mut Hand<'a, B>,
+        formulas: &[Formula],
+        from: usize,
+    ) -> Result<(), AllocError>
         requires serves { Serves (search_of self.now.protocol.now (B.template self.now.space.now) self.now.mode self.now.workers) (B.part_lists self.now.space.now) (B.has self.now.space.now) (B.formula_of self.now.space.now) }
         requires narrow { AreNarrow formulas.now }
         requires from { from ≤ length formulas.now }

@@ -12,6 +12,7 @@ use Rattle.sw_meaning.specs.declared.template.Template.{Template}
 use Rattle.sw_meaning.specs.Classes.{parts, formula_of}
 use Rattle.sw_meaning.specs.Edges.{IsStratifiedWith}
 use Rattle.sw_meaning.specs.Plain.{Passage, Until}
+use Rattle.sw_meaning.specs.Space.{InSpace}
 use Rattle.sw_meaning.specs.WellFormed.{IsWellFormed}
 use Rattle.sw_query_laws.specs.Edges.{AddsAmong}
 use Rattle.sw_template.specs.Bodies.{Class}
@@ -40,6 +41,7 @@ pub record CanSearch (p : Protocol) (t : Template) (ps : List (List (List ℕ)))
   pub has : (c : List ℕ) → Contains (all_classes ps) c → Has (class_of c)
   pub formulas : (c : List ℕ) → Contains (all_classes ps) c → formula (class_of c) ≡ formula_of p.signature t c
   pub sorted : (c : List ℕ) → Contains (all_classes ps) c → IsSentence p.signature (formula_of p.signature t c)
+  pub in_space : (c : List ℕ) → Contains (all_classes ps) c → InSpace p t (formula_of p.signature t c)
   pub extra : List Edge
   pub stratified : IsStratifiedWith p extra
   pub edges : (c : List ℕ) → Contains (all_classes ps) c → AddsAmong extra true (formula_of p.signature t c)

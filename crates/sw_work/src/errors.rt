@@ -23,6 +23,7 @@ pub enum BreadthError {
 }
 
 impl From<AllocError> for BreadthError {
+    ghost use Rattle.std.specs.Prelude.{◌≡◌};
     ghost use Rattle.sw_work.specs.declared.errors.BreadthError.TheVariants.{Memory};
 
     ghost from_gives = { λ _ e. e ≡ Memory };

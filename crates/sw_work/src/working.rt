@@ -53,5 +53,6 @@ pub fn work<'a, H: Wait, G: Gate, B: Candidates + Walk>(
     ensures stopped { IfErr result (λ _. 1 ≤ claim_seat.new.view.seen) }
     ensures on_the_way { IfErr result (λ e. IsAloneAt (search_of task.now.protocol.now (B.template task.now.space.now) Breadth task.now.workers) claim_seat.old.view log_seat.old.view → IsOnTheWay (search_of task.now.protocol.now (B.template task.now.space.now) Breadth task.now.workers) log_seat.old.view (carried e)) }
 {
+    claims.stop(claim_seat, task.worker as u64 + 1);
     Err(BreadthError::Memory)
 }
