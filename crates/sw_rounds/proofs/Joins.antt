@@ -29,7 +29,7 @@ use Rattle.sw_rounds.specs.declared.sharing.Places.{Places}
 use Rattle.sw_rounds.specs.declared.joining.Joined.{Joined}
 use Rattle.sw_rounds.specs.declared.joining.Joined.TheVariants as came
 use Rattle.sw_rounds.specs.declared.joining.Report.{Report}
-use Rattle.sw_rounds.specs.Joins.{AreNew, AreSeats, AreFirst, AreReports, AreShared, AreWhole, HaveJoined, HasParts, IsClosable, IsJoined, MayClose, IsOwned, IsOwner, IsPlace, IsReport, IsShared, with_answer}
+use Rattle.sw_rounds.specs.Joins.{AreNew, AreSeats, AreFirst, AreReports, AreShared, AreWhole, HaveJoined, HasParts, IsClosable, IsJoined, MayClose, IsOwned, IsFresh, IsOwner, IsPlace, IsReport, IsShared, with_answer}
 use Rattle.sw_rounds.proofs.Begins.{begins_itself, begins_through, both_begin}
 use Rattle.sw_rounds.proofs.Stays.{cause_stays, own_entry, owned_stays, shared_stays}
 
@@ -168,17 +168,27 @@ module _ (m : Search) (budget : Option ℕ) (pool : Pool) (entries : List Entry)
       claims came.Stopped a = ((h.claim_first, h.claim_out), a)
       claims (came.Failed e) a = tt
 
+abbrev pub Place : Type 0
+Place = Places × Bor Pool × Bor Shared
+
 -- what is known of a place among the new ones
-pub place_at : (s : Shared) (parts : ℕ) (entries : List Entry) (p : Pool) (places : List (Places × Bor Pool)) (i : ℕ) (x : Places × Bor Pool) → i < length places → slice_index_or places i x ≡ x
-    → All (λ (y : Places × Bor Pool). IsPlace s parts entries p y.1.now y.0) places → IsPlace s parts entries p x.1.now x.0
-place_at s parts entries p places i x below is all = subst (λ (y : Places × Bor Pool). IsPlace s parts entries p y.1.now y.0) is (all i x below)
+pub place_at : (s : Shared) (parts : ℕ) (entries : List Entry) (p : Pool) (places : List Place) (i : ℕ) (x : Place) → i < length places → slice_index_or places i x ≡ x
+    → All (λ (y : Place). IsPlace s parts entries p y.1.now y.2.now y.0) places → IsPlace s parts entries p x.1.now x.2.now x.0
+place_at s parts entries p places i x below is all = subst (λ (y : Place). IsPlace s parts entries p y.1.now y.2.now y.0) is (all i x below)
 
-pub place_seen : (s : Shared) (parts : ℕ) (entries : List Entry) (p q : Pool) (w : Places) → IsPlace s parts entries p q w → w.log.view.seen ≡ entries
-place_seen s parts entries p q w is = ap (λ (v : LogView). v.seen) is.new.log_is
+pub place_seen : (s : Shared) (parts : ℕ) (entries : List Entry) (p q : Pool) (z : Shared) (w : Places) → IsPlace s parts entries p q z w → w.log.view.seen ≡ entries
+place_seen s parts entries p q z w is = ap (λ (v : LogView). v.seen) is.new.log_is
 
-pub place_new : (s : Shared) (parts n : ℕ) (entries : List Entry) (p q : Pool) (w : Places) → parts ≡ n → IsPlace s parts entries p q w → AreNew s n w.log.view.seen w
-place_new s parts n entries p q w e is =
-    subst (λ k. AreNew s k w.log.view.seen w) e (record { seats = is.new.seats; claim_is = is.new.claim_is; log_is = is.new.log_is ∙ ap fresh_log (sym (place_seen s parts entries p q w is)) })
+place_new : (s : Shared) (parts n : ℕ) (entries : List Entry) (p q : Pool) (z : Shared) (w : Places) → parts ≡ n → IsPlace s parts entries p q z w → IsFresh s n z w
+place_new s parts n entries p q z w e is =
+    subst (λ k. IsFresh s k z w) e
+    (record { new = record { seats = is.new.seats; claim_is = is.new.claim_is; log_is = is.new.log_is ∙ ap fresh_log (sym (place_seen s parts entries p q z w is)) }; shared_is = is.shared_is })
+
+pub places_new : (s : Shared) (parts n : ℕ) (entries : List Entry) (p : Pool) (places : List Place) → parts ≡ n → All (λ (y : Place). IsPlace s parts entries p y.1.now y.2.now y.0) places → All (λ (y : Place). IsFresh s n y.2.now y.0) places
+places_new s parts n entries p places e all k d below = let x : Place = slice_index_or places k d in place_new s parts n entries p x.1.now x.2.now x.0 e (all k d below)
+
+pub new_at : (s : Shared) (n : ℕ) (places : List Place) (i : ℕ) (x : Place) → i < length places → slice_index_or places i x ≡ x → All (λ (y : Place). IsFresh s n y.2.now y.0) places → IsFresh s n x.2.now x.0
+new_at s n places i x below is all = subst (λ (y : Place). IsFresh s n y.2.now y.0) is (all i x below)
 
 -- one worker, on the first seats themselves
 module _ (m : Search) (budget : Option ℕ) (pool : Pool) (before : ℕ) (f : Places) (w : Places) (single : m.workers ≡ 1) (alone : IsAloneAt m f.claim.view f.log.view) (own : f.log.view.own ≡ f.log.view.seen) (gained : Gained m 0 f.log.view w.log.view) where

@@ -45,10 +45,16 @@ pub record AreNew (s : Shared) (parts : ℕ) (entries : List Entry) (w : Places)
   pub claim_is : w.claim.view ≡ fresh_claim parts
   pub log_is : w.log.view ≡ fresh_log entries
 
--- a worker's new seats, beside the pool
-pub record IsPlace (s : Shared) (parts : ℕ) (entries : List Entry) (p q : Pool) (w : Places) : Type 0 where
+-- a worker's new seats, beside the pool and what is shared
+pub record IsPlace (s : Shared) (parts : ℕ) (entries : List Entry) (p q : Pool) (z : Shared) (w : Places) : Type 0 where
   pub new : AreNew s parts entries w
   pub pool_is : q ≡ p
+  pub shared_is : z ≡ s
+
+-- a worker's new seats, beside what is shared
+pub record IsFresh (s : Shared) (parts : ℕ) (z : Shared) (w : Places) : Type 0 where
+  pub new : AreNew s parts w.log.view.seen w
+  pub shared_is : z ≡ s
 
 -- the first seats before any worker was joined, with so many others out and so many splits left
 pub record AreFirst (parts : ℕ) (entries : List Entry) (out splits : ℕ) (w : Places) : Type 0 where

@@ -64,20 +64,20 @@ impl Shared {
         Ok((shared, Places { claim, log: seat }))
     }
 
-    /// Seats for so many workers, each beside their pool.
+    /// Seats for so many workers, each beside their pool and what they share.
     pub(crate) fn split_all<'p>(
-        &self,
+        &'p self,
         alloc: Global,
         first: &mut Places,
         workers: u32,
         pool: &'p Pool,
-    ) -> Result<Vec<(Places, &'p Pool)>, AllocError>
+    ) -> Result<Vec<(Places, &'p Pool, &'p Shared)>, AllocError>
         requires seats { AreSeats self.now first.old }
         requires first { AreFirst first.old.claim.view.parts first.old.log.view.seen 0 workers first.old }
         ensures seats { AreSeats self.now first.new }
         ensures first { IfOk result (λ places. AreFirst first.old.claim.view.parts first.old.log.view.seen workers 0 first.new) }
         ensures len { IfOk result (λ places. vec_len places ≡ workers) }
-        ensures new { IfOk result (λ places. All (λ place. IsPlace self.now first.old.claim.view.parts first.old.log.view.seen pool.now place.1.now place.0) places.items) }
+        ensures new { IfOk result (λ places. All (λ place. IsPlace self.now first.old.claim.view.parts first.old.log.view.seen pool.now place.1.now place.2.now place.0) places.items) }
     {
         let mut places = Vec::new(alloc);
         for _ in 0..workers {
@@ -87,7 +87,7 @@ impl Shared {
             let Some(log) = self.log.split(&mut first.log) else {
                 unreachable!();
             };
-            places.push((Places { claim, log }, pool))?;
+            places.push((Places { claim, log }, pool, self))?;
         }
         Ok(places)
     }

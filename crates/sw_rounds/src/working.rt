@@ -2,13 +2,14 @@
 ghost use Rattle.std.specs.Prelude.{◌≡◌, ◌+◌, ◌≤◌, All, IfErr, IfOk, length, vec_len};
 ghost use Rattle.std.specs.List.{AllByRecursion};
 ghost use Rattle.sw_filter.specs.declared.filter.Mode.TheVariants.{Breadth};
+ghost use Rattle.sw_claims.specs.Workers.{AnswersEach};
 ghost use Rattle.sw_log.specs.LogRule.{HoldsEach, Placed};
 ghost use Rattle.sw_log.specs.LogSteps.{IsAlone};
 ghost use Rattle.sw_core.specs.Machine.{parts_in};
 ghost use Rattle.sw_hand.specs.Hands.{search_of};
 ghost use Rattle.sw_walk.specs.Parts.{IsClass};
 ghost use Rattle.sw_work.specs.Works.{CanSearch, IsAloneAt};
-ghost use Rattle.sw_rounds.specs.Joins.{AreSeats, AreNew, AreFirst, AreReports, IsReport, HaveJoined, IsWholeRound, IsCauseOfRound, IsPlainRound, IsOnItsWay, IsClosable, IsClosed, IsPlainlyJoined, MayClose};
+ghost use Rattle.sw_rounds.specs.Joins.{AreSeats, AreNew, AreFirst, AreReports, IsFresh, IsReport, HaveJoined, IsWholeRound, IsCauseOfRound, IsPlainRound, IsOnItsWay, IsClosable, IsClosed, IsPlainlyJoined, MayClose};
 ghost use Rattle.sw_rounds.specs.declared.joining.Joined.TheVariants.{Failed};
 
 use crate::joining::{Joined, Report};
@@ -81,6 +82,45 @@ impl<'a, 'b, G: Gate + Sync, B: Candidates + Walk + Sync> Round<'a, 'b, G, B> {
         Ok(joined)
     }
 
+    /// What the workers come to, side by side.
+    fn side_by_side<H: Threads + Wait + Sync>(
+        &self,
+        rt: &H,
+        alloc: Global,
+        places: Vec<(Places, &Pool, &Shared)>,
+    ) -> Result<Vec<Report>, AllocError>
+        requires can { CanSearch self.now.task.now.protocol.now (B.template self.now.task.now.space.now) (B.part_lists self.now.task.now.space.now) (B.has self.now.task.now.space.now) (B.formula_of self.now.task.now.space.now) self.now.shared.now.figures.budget }
+        requires new { All (λ place. IsFresh self.now.shared.now (length (B.part_lists self.now.task.now.space.now)) place.2.now place.0) places.items }
+        ensures len { IfOk result (λ reports. vec_len reports ≡ vec_len places.entry) }
+        ensures each { IfOk result (λ reports. AnswersEach (λ i place r. IsReport (search_of self.now.task.now.protocol.now (B.template self.now.task.now.space.now) Breadth place.2.now.figures.workers) place.2.now.figures.budget place.1.now place.2.now place.2.now.figures.before place.0.log.view.seen i r) places.entry.items reports.items) }
+    {
+        let Task {
+            protocol,
+            space,
+            pool: _,
+            mode: _,
+            workers: _,
+            worker: _,
+        } = *self.task;
+        let gate = self.gate;
+        fork(
+            rt,
+            alloc,
+            places,
+            &|worker: u32, place: (Places, &Pool, &Shared)| -> Report
+                requires can { CanSearch protocol.now (B.template space.now) (B.part_lists space.now) (B.has space.now) (B.formula_of space.now) place.2.now.figures.budget }
+                requires new { AreNew place.2.now (length (B.part_lists space.now)) place.0.log.view.seen place.0 }
+                ensures { IsReport (search_of protocol.entry.now (B.template space.entry.now) Breadth place.entry.2.now.figures.workers) place.entry.2.now.figures.budget place.entry.1.now place.entry.2.now place.entry.2.now.figures.before place.entry.0.log.view.seen worker result }
+            {
+                let (places, pool, shared) = place;
+                let workers = shared.figures.workers;
+                let task = Task { protocol, space, pool, mode: Mode::Breadth, workers, worker };
+                let round = Round { task: &task, gate, shared };
+                round.report(rt, alloc, places)
+            },
+        )
+    }
+
     /// The round of several workers, side by side.
     fn together<H: Threads + Wait + Sync>(
         &self,
@@ -96,36 +136,10 @@ impl<'a, 'b, G: Gate + Sync, B: Candidates + Walk + Sync> Round<'a, 'b, G, B> {
         ensures seats { IfOk result (λ _. AreSeats self.now.shared.now first.new) }
         ensures joined { IfOk result (HaveJoined (search_of self.now.task.now.protocol.now (B.template self.now.task.now.space.now) Breadth self.now.task.now.workers) self.now.shared.now.figures.budget first.old.log.view.seen self.now.shared.now.figures.before self.now.task.now.workers 0 first.new) }
     {
-        let Task {
-            protocol,
-            space,
-            pool,
-            mode: _,
-            workers,
-            worker: _,
-        } = *self.task;
-        let Round {
-            task: _,
-            gate,
-            shared,
-        } = *self;
-        let places = shared.split_all(alloc, first, workers, pool)?;
-        let reports = fork(
-            rt,
-            alloc,
-            places,
-            &|worker: u32, place: (Places, &Pool)| -> Report
-                requires can { CanSearch protocol.now (B.template space.now) (B.part_lists space.now) (B.has space.now) (B.formula_of space.now) shared.now.figures.budget }
-                requires new { AreNew shared.now (length (B.part_lists space.now)) place.0.log.view.seen place.0 }
-                ensures { IsReport (search_of protocol.entry.now (B.template space.entry.now) Breadth shared.entry.now.figures.workers) shared.entry.now.figures.budget place.entry.1.now shared.entry.now shared.entry.now.figures.before place.entry.0.log.view.seen worker result }
-            {
-                let (places, pool) = place;
-                let workers = shared.figures.workers;
-                let task = Task { protocol, space, pool, mode: Mode::Breadth, workers, worker };
-                let round = Round { task: &task, gate, shared };
-                round.report(rt, alloc, places)
-            },
-        )?;
+        let shared = self.shared;
+        let workers = self.task.workers;
+        let places = shared.split_all(alloc, first, workers, self.task.pool)?;
+        let reports = self.side_by_side(rt, alloc, places)?;
         self.gather(alloc, first, reports)
     }
 
