@@ -187,8 +187,8 @@ place_new s parts n entries p q z w e is =
 pub places_new : (s : Shared) (parts n : ℕ) (entries : List Entry) (p : Pool) (places : List Place) → parts ≡ n → All (λ (y : Place). IsPlace s parts entries p y.1.now y.2.now y.0) places → All (λ (y : Place). IsFresh s n y.2.now y.0) places
 places_new s parts n entries p places e all k d below = let x : Place = slice_index_or places k d in place_new s parts n entries p x.1.now x.2.now x.0 e (all k d below)
 
-pub new_at : (s : Shared) (n : ℕ) (places : List Place) (i : ℕ) (x : Place) → i < length places → slice_index_or places i x ≡ x → All (λ (y : Place). IsFresh s n y.2.now y.0) places → IsFresh s n x.2.now x.0
-new_at s n places i x below is all = subst (λ (y : Place). IsFresh s n y.2.now y.0) is (all i x below)
+pub new_at : (places : List Place) (i : ℕ) (x : Place) → i < length places → slice_index_or places i x ≡ x → (P : Place → Type 0) → All P places → P x
+new_at places i x below is P all = subst P is (all i x below)
 
 -- one worker, on the first seats themselves
 module _ (m : Search) (budget : Option ℕ) (pool : Pool) (before : ℕ) (f : Places) (w : Places) (single : m.workers ≡ 1) (alone : IsAloneAt m f.claim.view f.log.view) (own : f.log.view.own ≡ f.log.view.seen) (gained : Gained m 0 f.log.view w.log.view) where

@@ -9,7 +9,7 @@ ghost use Rattle.sw_core.specs.Machine.{parts_in};
 ghost use Rattle.sw_hand.specs.Hands.{search_of};
 ghost use Rattle.sw_walk.specs.Parts.{IsClass};
 ghost use Rattle.sw_work.specs.Works.{CanSearch, IsAloneAt};
-ghost use Rattle.sw_rounds.specs.Joins.{AreSeats, AreNew, AreFirst, AreReports, IsFresh, IsReport, HaveJoined, IsWholeRound, IsCauseOfRound, IsPlainRound, IsOnItsWay, IsClosable, IsClosed, IsPlainlyJoined, MayClose};
+ghost use Rattle.sw_rounds.specs.Joins.{AreSeats, AreNew, AreFirst, AreReports, IsReport, HaveJoined, IsWholeRound, IsCauseOfRound, IsPlainRound, IsOnItsWay, IsClosable, IsClosed, IsPlainlyJoined, MayClose};
 ghost use Rattle.sw_rounds.specs.declared.joining.Joined.TheVariants.{Failed};
 
 use crate::joining::{Joined, Report};
@@ -23,6 +23,7 @@ use sw_core::Entry;
 use sw_edge::Gate;
 use sw_filter::{Candidates, Mode};
 use sw_hand::{Handed, Task};
+use sw_meaning::Protocol;
 use sw_pool::Pool;
 use sw_walk::Walk;
 use sw_work::{BreadthError, Worked, work};
@@ -35,7 +36,7 @@ pub(crate) struct Round<'a, 'b, G, B> {
     pub(crate) shared: &'b Shared,
 }
 
-impl<'a, 'b, G: Gate + Sync, B: Candidates + Walk + Sync> Round<'a, 'b, G, B> {
+impl<'a, 'b, G: Gate, B: Candidates + Walk> Round<'a, 'b, G, B> {
     /// What the worker comes to, from new seats.
     fn report<H: Wait>(&self, rt: &H, alloc: Global, places: Places) -> Report
         requires mode { self.now.task.now.mode ≡ Breadth }
@@ -58,7 +59,9 @@ impl<'a, 'b, G: Gate + Sync, B: Candidates + Walk + Sync> Round<'a, 'b, G, B> {
         );
         Report { places, answer }
     }
+}
 
+impl<'a, 'b, G: Gate + Sync, B: Candidates + Walk + Sync> Round<'a, 'b, G, B> {
     /// Joins the workers into the first seats, in their order.
     fn gather(
         &self,
@@ -82,45 +85,6 @@ impl<'a, 'b, G: Gate + Sync, B: Candidates + Walk + Sync> Round<'a, 'b, G, B> {
         Ok(joined)
     }
 
-    /// What the workers come to, side by side.
-    fn side_by_side<H: Threads + Wait + Sync>(
-        &self,
-        rt: &H,
-        alloc: Global,
-        places: Vec<(Places, &Pool, &Shared)>,
-    ) -> Result<Vec<Report>, AllocError>
-        requires can { CanSearch self.now.task.now.protocol.now (B.template self.now.task.now.space.now) (B.part_lists self.now.task.now.space.now) (B.has self.now.task.now.space.now) (B.formula_of self.now.task.now.space.now) self.now.shared.now.figures.budget }
-        requires new { All (λ place. IsFresh self.now.shared.now (length (B.part_lists self.now.task.now.space.now)) place.2.now place.0) places.items }
-        ensures len { IfOk result (λ reports. vec_len reports ≡ vec_len places.entry) }
-        ensures each { IfOk result (λ reports. AnswersEach (λ i place r. IsReport (search_of self.now.task.now.protocol.now (B.template self.now.task.now.space.now) Breadth place.2.now.figures.workers) place.2.now.figures.budget place.1.now place.2.now place.2.now.figures.before place.0.log.view.seen i r) places.entry.items reports.items) }
-    {
-        let Task {
-            protocol,
-            space,
-            pool: _,
-            mode: _,
-            workers: _,
-            worker: _,
-        } = *self.task;
-        let gate = self.gate;
-        fork(
-            rt,
-            alloc,
-            places,
-            &|worker: u32, place: (Places, &Pool, &Shared)| -> Report
-                requires can { CanSearch protocol.now (B.template space.now) (B.part_lists space.now) (B.has space.now) (B.formula_of space.now) place.2.now.figures.budget }
-                requires new { AreNew place.2.now (length (B.part_lists space.now)) place.0.log.view.seen place.0 }
-                ensures { IsReport (search_of protocol.entry.now (B.template space.entry.now) Breadth place.entry.2.now.figures.workers) place.entry.2.now.figures.budget place.entry.1.now place.entry.2.now place.entry.2.now.figures.before place.entry.0.log.view.seen worker result }
-            {
-                let (places, pool, shared) = place;
-                let workers = shared.figures.workers;
-                let task = Task { protocol, space, pool, mode: Mode::Breadth, workers, worker };
-                let round = Round { task: &task, gate, shared };
-                round.report(rt, alloc, places)
-            },
-        )
-    }
-
     /// The round of several workers, side by side.
     fn together<H: Threads + Wait + Sync>(
         &self,
@@ -139,7 +103,7 @@ impl<'a, 'b, G: Gate + Sync, B: Candidates + Walk + Sync> Round<'a, 'b, G, B> {
         let shared = self.shared;
         let workers = self.task.workers;
         let places = shared.split_all(alloc, first, workers, self.task.pool)?;
-        let reports = self.side_by_side(rt, alloc, places)?;
+        let reports = side_by_side(rt, alloc, self.task.protocol, self.task.space, self.gate, places)?;
         self.gather(alloc, first, reports)
     }
 
@@ -182,6 +146,37 @@ impl<'a, 'b, G: Gate + Sync, B: Candidates + Walk + Sync> Round<'a, 'b, G, B> {
             Err(error) => Ok(Joined::Failed(error)),
         }
     }
+}
+
+/// What the workers come to, side by side, each from its own seats.
+fn side_by_side<H: Threads + Wait + Sync, G: Gate + Sync, B: Candidates + Walk + Sync>(
+    rt: &H,
+    alloc: Global,
+    protocol: &Protocol,
+    space: &B,
+    gate: &G,
+    places: Vec<(Places, &Pool, &Shared)>,
+) -> Result<Vec<Report>, AllocError>
+    requires new { All (λ place. CanSearch protocol.now (B.template space.now) (B.part_lists space.now) (B.has space.now) (B.formula_of space.now) place.2.now.figures.budget × AreNew place.2.now (length (B.part_lists space.now)) place.0.log.view.seen place.0) places.items }
+    ensures len { IfOk result (λ reports. vec_len reports ≡ vec_len places.entry) }
+    ensures each { IfOk result (λ reports. AnswersEach (λ i place r. IsReport (search_of protocol.now (B.template space.now) Breadth place.2.now.figures.workers) place.2.now.figures.budget place.1.now place.2.now place.2.now.figures.before place.0.log.view.seen i r) places.entry.items reports.items) }
+{
+    fork(
+        rt,
+        alloc,
+        places,
+        &|worker: u32, place: (Places, &Pool, &Shared)| -> Report
+            requires can { CanSearch protocol.now (B.template space.now) (B.part_lists space.now) (B.has space.now) (B.formula_of space.now) place.2.now.figures.budget }
+            requires new { AreNew place.2.now (length (B.part_lists space.now)) place.0.log.view.seen place.0 }
+            ensures { IsReport (search_of protocol.entry.now (B.template space.entry.now) Breadth place.entry.2.now.figures.workers) place.entry.2.now.figures.budget place.entry.1.now place.entry.2.now place.entry.2.now.figures.before place.entry.0.log.view.seen worker result }
+        {
+            let (places, pool, shared) = place;
+            let workers = shared.figures.workers;
+            let task = Task { protocol, space, pool, mode: Mode::Breadth, workers, worker };
+            let round = Round { task: &task, gate, shared };
+            round.report(rt, alloc, places)
+        },
+    )
 }
 
 /// What a round leaves: the log, and the share of each worker.

@@ -1,15 +1,23 @@
-use Rattle.std.proofs.Common.{◌≡◌, ℕ, ◌<◌, ◌+◌, ◌∙◌, arith, ap, length, rules, slice_index_or, sym, subst}
+use Rattle.std.proofs.Common.{◌≡◌, All, ℕ, ◌<◌, ◌+◌, ◌∙◌, arith, ap, length, rules, slice_index_or, sym, subst}
 use Rattle.sw_filter.specs.declared.filter.Mode.TheVariants.{Breadth}
 use Rattle.sw_hand.specs.Hands.{search_of}
 use Rattle.sw_rounds.specs.declared.sharing.Shared.{Shared}
-use Rattle.sw_rounds.specs.Joins.{IsReport}
-use Rattle.sw_rounds.proofs.Joins.{places_new, place_at, place_seen, reports_of}
+use Rattle.sw_work.specs.Works.{CanSearch}
+use Rattle.sw_rounds.specs.Joins.{AreNew, IsReport}
+use Rattle.sw_rounds.proofs.Joins.{Place, places_new, place_at, place_seen, reports_of}
 use Rattle.sw_rounds.proofs.working.Round.together.Goals as goal
 
 pub side_by_side-requires-clause-new : goal.side_by_side-requires-clause-new
 side_by_side-requires-clause-new g c κs within =
     let s = c.args.self.now in
-    places_new s.shared.now c.args.first.now.claim.view.parts (length (g.B.Walk.part_lists s.task.now.space.now)) c.args.first.now.log.view.seen s.task.now.pool.now c.in_ok-places.places.items c.requires.first.parts_are c.in_ok-places.ensures.new
+    let x = s.task.now.space.now in
+    let n = length (g.B.Walk.part_lists x) in
+    let h : All (λ (y : Place). CanSearch s.task.now.protocol.now (g.B.Walk.template x) (g.B.Walk.part_lists x) (g.B.Candidates.has x) (g.B.Candidates.formula_of x) y.2.now.figures.budget × AreNew y.2.now n y.0.log.view.seen y.0) c.in_ok-places.places.items = λ k d below.
+    let is = places_new s.shared.now c.args.first.now.claim.view.parts n c.args.first.now.log.view.seen s.task.now.pool.now c.in_ok-places.places.items c.requires.first.parts_are c.in_ok-places.ensures.new k d below in
+    let place = slice_index_or c.in_ok-places.places.items k d in
+    (subst (λ (z : Shared). CanSearch s.task.now.protocol.now (g.B.Walk.template x) (g.B.Walk.part_lists x) (g.B.Candidates.has x) (g.B.Candidates.formula_of x) z.figures.budget) (sym is.shared_is) c.requires.can,
+     subst (λ (z : Shared). AreNew z n place.0.log.view.seen place.0) (sym is.shared_is) is.new) in
+    h
 
 pub gather-requires-clause-reports : goal.gather-requires-clause-reports
 gather-requires-clause-reports g c κs within =
