@@ -151,9 +151,10 @@ module _ (m : Search) (budget : Option ℕ) (pool : Pool) (entries : List Entry)
   pub reports_of : (s : Shared) (k : ℕ) (rs : List Report) → ((i : ℕ) (d : Report) → i < length rs → IsReport m budget pool s before entries (k + i) (slice_index_or rs i d)) → AreReports m budget pool s before entries k rs
   reports_of s k [] h = tt
   reports_of s k (r ∷ rs) h =
-      let here : k + 0 ≡ k = omega arith in
-      (subst (λ n. IsReport m budget pool s before entries n r) here (h 0 r (omega arith)),
-       reports_of s (k + 1) rs (λ i d lt. let n : k + suc i ≡ (k + 1) + i = omega arith in subst (λ x. IsReport m budget pool s before entries x (slice_index_or rs i d)) n (h (suc i) d (omega arith))))
+      let here : k + 0 ≡ k = omega arith in (
+        subst (λ n. IsReport m budget pool s before entries n r) here (h 0 r (omega arith)),
+        reports_of s (k + 1) rs (λ i d lt. let n : k + suc i ≡ (k + 1) + i = omega arith in subst (λ x. IsReport m budget pool s before entries x (slice_index_or rs i d)) n (h (suc i) d (omega arith))),
+      )
 
   -- what was joined may be closed
   pub closable : (w : Places) (j : Joined) → HaveJoined m budget entries before m.workers 0 w j → IsClosable m budget entries before w j
@@ -163,6 +164,7 @@ module _ (m : Search) (budget : Option ℕ) (pool : Pool) (entries : List Entry)
       parts (came.Whole hs) = h.parts_are
       parts came.Stopped = tt
       parts (came.Failed e) = tt
+
       claims : (j : Joined) → IsJoined m budget entries before m.workers w.claim.view w.log.view j → MayClose w.claim.view j
       claims (came.Whole hs) a = (h.claim_first, h.claim_out)
       claims came.Stopped a = ((h.claim_first, h.claim_out), a)
@@ -230,6 +232,7 @@ module _ (m : Search) (budget : Option ℕ) (pool : Pool) (before : ℕ) (f : Pl
     where
       mine : IsShared m before (length f.log.view.seen) (seen_formulas m w.log.view.seen) 0 h
       mine = record { share = did.1.share; timely = did.1.timely }
+
       only : (i : ℕ) (x : Handed) → slice_get (h ∷ []) i ≡ Some x → IsShared m before (length f.log.view.seen) (seen_formulas m w.log.view.seen) i x
       only zero x e = subst (IsShared m before (length f.log.view.seen) (seen_formulas m w.log.view.seen) 0) (same_Some h x e) mine
       only (suc i) x e = absurd (none-some x e)

@@ -72,10 +72,11 @@ module _ (m : Search) (list : List Formula) (fs : List Filter) (breadth : m.mode
       → AllByRecursion (λ (s : Share). AllByRecursion (Both s.kept) s.settled) (map share_of hs)
   both_shares since formulas i [] s l = tt
   both_shares since formulas i (h ∷ hs) s l =
-      let one = (s 0 h refl).share fs refl in
-      (each-both (λ (x : Settled). AreBelow (length (fs ++ filters_of h.kept)) x.by) (λ (x : Settled). AreLiveAt m.protocol list (length fs) h.kept x.by) h.settled
-          (each-weaker (IsSettledBy m (i + 0) formulas (fs ++ filters_of h.kept)) (λ (x : Settled). AreBelow (length (fs ++ filters_of h.kept)) x.by) (λ x a. a.places) h.settled one.settled) l.0,
-       both_shares since formulas (i + 1) hs (λ k x e. let n : i + suc k ≡ (i + 1) + k = omega arith in subst (λ w. IsShared m (length fs) since formulas w x) n (s (suc k) x e)) l.1)
+      let one = (s 0 h refl).share fs refl in (
+        each-both (λ (x : Settled). AreBelow (length (fs ++ filters_of h.kept)) x.by) (λ (x : Settled). AreLiveAt m.protocol list (length fs) h.kept x.by) h.settled
+            (each-weaker (IsSettledBy m (i + 0) formulas (fs ++ filters_of h.kept)) (λ (x : Settled). AreBelow (length (fs ++ filters_of h.kept)) x.by) (λ x a. a.places) h.settled one.settled) l.0,
+        both_shares since formulas (i + 1) hs (λ k x e. let n : i + suc k ≡ (i + 1) + k = omega arith in subst (λ w. IsShared m (length fs) since formulas w x) n (s (suc k) x e)) l.1,
+      )
 
   pub live_round : (since : ℕ) (hs : List Handed) → AreShared m (length fs) since list hs → AllByRecursion (IsLiveShare m.protocol list (length fs)) hs
       → AllByRecursion (LiveBy (fs ++ filters_of (kept_of (map share_of hs)))) (settled_of (length fs) 0 (map share_of hs))

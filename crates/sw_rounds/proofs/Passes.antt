@@ -104,6 +104,7 @@ module _ (p : Protocol) (t : Template) where
       each_class : (part : List (List ℕ)) → AllByRecursion (λ class. Adds p t g class → ⊥) part → AllByRecursion (λ class. After p t g class g) part
       each_class [] a = tt
       each_class (class ∷ part) a = (After.left a.0 refl, each_class part a.1)
+
       each_part : (ps : List (List (List ℕ))) → AllByRecursion (λ part. AllByRecursion (λ class. Adds p t g class → ⊥) part) ps → AllByRecursion (λ part. Until (Passage p t part) g g) ps
       each_part [] a = tt
       each_part (part ∷ ps) a = (Until.rests (folds_stay (After p t) g part (each_class part a.0)), each_part ps a.1)

@@ -53,7 +53,13 @@ fn is_live_share(protocol: &Protocol, list: &[Formula], before: u32, share: &Han
     ensures { result ≡ true → IsLiveShare protocol.now list.now before share.now }
 {
     for settled in share.settled.as_slice() {
-        if !are_live(protocol, list, before, share.kept.as_slice(), settled.by.as_slice()) {
+        if !are_live(
+            protocol,
+            list,
+            before,
+            share.kept.as_slice(),
+            settled.by.as_slice(),
+        ) {
             return false;
         }
     }
@@ -113,10 +119,5 @@ pub(crate) fn is_last<B: Candidates + Walk>(
         return Ok(true);
     }
     let formulas = formulas_of(alloc, task, log)?;
-    Ok(are_live_shares(
-        task.protocol,
-        &formulas,
-        before,
-        shares,
-    ))
+    Ok(are_live_shares(task.protocol, &formulas, before, shares))
 }

@@ -103,7 +103,14 @@ impl<'a, 'b, G: Gate + Sync, B: Candidates + Walk + Sync> Round<'a, 'b, G, B> {
         let shared = self.shared;
         let workers = self.task.workers;
         let places = shared.split_all(alloc, first, workers, self.task.pool)?;
-        let reports = side_by_side(rt, alloc, self.task.protocol, self.task.space, self.gate, places)?;
+        let reports = side_by_side(
+            rt,
+            alloc,
+            self.task.protocol,
+            self.task.space,
+            self.gate,
+            places,
+        )?;
         self.gather(alloc, first, reports)
     }
 
@@ -172,8 +179,19 @@ fn side_by_side<H: Threads + Wait + Sync, G: Gate + Sync, B: Candidates + Walk +
         {
             let (places, pool, shared) = place;
             let workers = shared.figures.workers;
-            let task = Task { protocol, space, pool, mode: Mode::Breadth, workers, worker };
-            let round = Round { task: &task, gate, shared };
+            let task = Task {
+                protocol,
+                space,
+                pool,
+                mode: Mode::Breadth,
+                workers,
+                worker,
+            };
+            let round = Round {
+                task: &task,
+                gate,
+                shared,
+            };
             round.report(rt, alloc, places)
         },
     )
