@@ -1,0 +1,10 @@
+pub mod Begins
+pub mod Closes
+pub mod Earns
+pub mod Ends
+pub mod Joins
+pub mod Lives
+pub mod Passes
+pub mod Recorded
+pub mod Runs
+pub mod Stays
