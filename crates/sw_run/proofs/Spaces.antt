@@ -18,6 +18,7 @@ use Rattle.sw_enumerate.specs.Spaces.{Made, IsSpaceOf}
 use Rattle.sw_space.specs.declared.faults.SpaceFault.{SpaceFault}
 use Rattle.sw_space.specs.Named.{IsWithinLimits, Fits, HasSpace, edges_with}
 use Rattle.sw_search.specs.Spaces.{IsSearchable, CanSearch, template_of}
+use Rattle.sw_search.proofs.Searchable.{parts_few}
 use Rattle.sw_words.specs.declared.commands.Options.{Options}
 use Rattle.sw_run.specs.Ending.{Names}
 use Rattle.sw_run.specs.Giving.{Gives}
@@ -26,6 +27,7 @@ use Rattle.sw_run.specs.Giving.{Gives}
 record Suits (p : Protocol) (beside : Option Template) (t : Template) : Type 0 where
   pub over : IsOver p.signature t
   pub variables : variable_count t.prefix ≤ 6
+  pub literals : t.literals ≤ 6
   pub stratified : IsStratifiedWith p (edges_with beside t)
   pub limits : IsWithinLimits p.signature t
 
@@ -37,6 +39,7 @@ fits_suits p beside t u r is (Fits.within stratified limits same) ok =
     subst (Suits p beside) one (record {
       over = each-weaker (λ (run : Run). (0 < run.count) × (run.sort < length p.signature.sorts)) (λ run. run.sort < length p.signature.sorts) (λ run h. h.1) t.prefix is.runs;
       variables = is.variables;
+      literals = is.few;
       stratified = stratified;
       limits = limits;
     })
@@ -64,6 +67,7 @@ searchable p beside s extra suits made among = record {
   over = suits.over;
   variables = suits.variables;
   few = subst (λ cubes. length (classes_of s.template.literals cubes) ≤ 2 ^ 32) (sym made.cubes_are) suits.limits.classes;
+  parts = parts_few s suits.literals (subst (λ cubes. length cubes ≤ 1048576) (sym made.cubes_are) suits.limits.cubes);
   edges = among;
 }
 

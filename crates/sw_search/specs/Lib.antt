@@ -1,3 +1,4 @@
 pub mod Searches
 pub mod Spaces
+pub mod Phases
 pub mod Laws

@@ -11,7 +11,7 @@ use Rattle.sw_cover.specs.Laws.{IsOver}
 use Rattle.sw_template.specs.Bodies.{Class, AreCubes}
 use Rattle.sw_template.specs.Edges.{template_edges}
 use Rattle.sw_template.specs.Prefix.{variable_count}
-use Rattle.sw_enumerate.specs.Spaces.{Made, IsSpaceOf, classes_in, formula_in}
+use Rattle.sw_enumerate.specs.Spaces.{Made, IsSpaceOf, classes_in, parts_in, formula_in}
 
 -- the class is of the space's cubes, whose atoms have no quantifiers, under few variables
 pub record IsReadable (s : Made) (c : Class) : Type 0 where
@@ -26,6 +26,7 @@ pub record IsSearchable (p : Protocol) (extra : List Edge) (s : Made) : Type 0 w
   pub over : IsOver p.signature s.template
   pub variables : variable_count s.template.prefix ≤ 6
   pub few : length (classes_in s) ≤ 2 ^ 32
+  pub parts : length (parts_in s) ≤ 8589934592
   pub edges : AreAmong (template_edges s.template) extra
 
 -- the spaces can be searched, and with the edges of both the protocol's have ranks

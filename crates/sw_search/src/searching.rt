@@ -1,11 +1,12 @@
 //! The search: the list that workers find, then safety under it, then the classes to finish with.
-ghost use Rattle.std.specs.Prelude.{◌≤◌, IfOk, IfSome};
+ghost use Rattle.std.specs.Prelude.{◌≡◌, ◌≤◌, IfOk, IfSome};
 ghost use Rattle.std.specs.Option.{option_copied};
 ghost use Rattle.sw_meaning.specs.WellFormed.{IsWellFormed};
 ghost use Rattle.sw_search.specs.Searches.{IsTold};
 ghost use Rattle.sw_search.specs.Spaces.{CanSearch, template_of};
 
-use crate::telling::Told;
+use crate::listing::{Listed, list_of};
+use crate::telling::{Found, Told};
 use std::alloc::{AllocError, Global};
 use std::sync::Wait;
 use std::thread::Threads;
@@ -32,5 +33,18 @@ pub fn search<H: Threads + Wait + Sync, G: Gate + Sync>(
     requires some { IfSome budget (λ most. 1 ≤ most) }
     ensures { IfOk result (IsTold protocol.now (template_of (option_copied breadth.entry)) (template_of (option_copied finish.entry)) workers budget) }
 {
-    Err(AllocError)
+    match list_of(rt, alloc, protocol, breadth, workers, budget, gate)? {
+        Listed::Formulas(list) => {
+            let found = Found {
+                protocol,
+                breadth,
+                finish,
+                workers,
+                budget,
+                list: list.as_slice(),
+            };
+            found.tell(rt, alloc, gate)
+        }
+        Listed::Stopped(line) => Ok(Told::Stopped(line)),
+    }
 }
