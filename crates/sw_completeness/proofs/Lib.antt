@@ -1,0 +1,9 @@
+mod Asked
+mod Ends
+mod Examples
+mod Found
+mod Reading
+mod Searches
+mod Sides
+mod Strata
+mod Within
