@@ -32,7 +32,7 @@ use Rattle.sw_walk.specs.Parts.{classes_of, IsClass}
 use Rattle.sw_hand.specs.Hands.{search_of}
 use Rattle.sw_work.specs.Works.{bodies_of}
 use Rattle.sw_work.specs.declared.errors.BreadthError.TheVariants.{Spent, TooLarge}
-use Rattle.sw_rounds.specs.Rounds.{IsGathered, IsCause, IsOnTheWay, listed}
+use Rattle.sw_breadth.specs.Rounds.{IsGathered, IsCause, IsOnTheWay, listed}
 use Rattle.sw_search.specs.Searches.{IsList, InBreadth, EndsBy, Ended, Stops, IsStopped, ended_line, told_query, named_class}
 use Rattle.sw_search.specs.Spaces.{CanSearch}
 use Rattle.sw_search.proofs.Log.{entries_of, record_log, record_ends}

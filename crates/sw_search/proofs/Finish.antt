@@ -21,8 +21,8 @@ use Rattle.sw_hand.specs.Hands.{search_of}
 use Rattle.sw_join.specs.Joining.{IsAsked}
 use Rattle.sw_seek.specs.Seeking.{IsFirstJoined, NoneJoins, IsCause}
 use Rattle.sw_seek.specs.declared.errors.FinishError.TheVariants.{Spent, TooLarge}
-use Rattle.sw_finishing.specs.declared.finishing.Finished.TheVariants as finishing
-use Rattle.sw_finishing.specs.Finished.{IsFinished}
+use Rattle.sw_finish.specs.declared.finishing.Finished.TheVariants as finishing
+use Rattle.sw_finish.specs.Finished.{IsFinished}
 use Rattle.sw_core.specs.declared.record.Record.{Record}
 use Rattle.sw_search.specs.Searches.{HasVerdict, InFinish, EndsBy, Ended, Stops, IsStopped, ended_line, told_query, named_class}
 use Rattle.sw_search.specs.Spaces.{IsSearchable, template_of}

@@ -18,7 +18,7 @@ use std::thread::Threads;
 use sw_edge::Gate;
 use sw_enumerate::Space;
 use sw_examine::QueryName;
-use sw_finishing::{Finished as Outcome, finish};
+use sw_finish::{Finished as Outcome, finish};
 use sw_logic::Formula;
 use sw_seek::FinishError;
 

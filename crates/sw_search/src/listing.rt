@@ -5,7 +5,7 @@ ghost use Rattle.sw_meaning.specs.WellFormed.{IsWellFormed};
 ghost use Rattle.sw_enumerate.specs.Spaces.{formula_in};
 ghost use Rattle.sw_filter.specs.declared.filter.Mode.TheVariants.{Breadth};
 ghost use Rattle.sw_hand.specs.Hands.{search_of};
-ghost use Rattle.sw_rounds.specs.Rounds.{IsCause, IsOnTheWay};
+ghost use Rattle.sw_breadth.specs.Rounds.{IsCause, IsOnTheWay};
 ghost use Rattle.sw_search.specs.Searches.{InBreadth, EndsBy};
 ghost use Rattle.sw_search.specs.Spaces.{CanSearch, template_of};
 ghost use Rattle.sw_search.specs.Phases.{IsListed, ended_of};
@@ -16,13 +16,13 @@ use sqlite_items::Items;
 use std::alloc::{AllocError, Global};
 use std::sync::Wait;
 use std::thread::Threads;
+use sw_breadth::breadth;
 use sw_core::Entry;
 use sw_edge::Gate;
 use sw_enumerate::Space;
 use sw_examine::QueryName;
 use sw_logic::Formula;
 use sw_meaning::Protocol;
-use sw_rounds::breadth;
 use sw_work::BreadthError;
 
 /// What the first phase leaves: the formulas of the list, or the line of the query that ended it.

@@ -8,8 +8,8 @@ use Rattle.sw_filter.specs.declared.filter.Mode.TheVariants.{Finish}
 use Rattle.sw_enumerate.specs.Spaces.{Made, parts_in, formula_in}
 use Rattle.sw_hand.specs.Hands.{search_of}
 use Rattle.sw_seek.specs.Seeking.{CanFinish}
-use Rattle.sw_finishing.specs.Finished.{IsFinished}
-use Rattle.sw_finishing.specs.declared.finishing.Finished.TheVariants.{Joined, Exhausted}
+use Rattle.sw_finish.specs.Finished.{IsFinished}
+use Rattle.sw_finish.specs.declared.finishing.Finished.TheVariants.{Joined, Exhausted}
 use Rattle.sw_search.specs.Searches.{HasVerdict}
 use Rattle.sw_search.specs.Spaces.{IsReadable}
 use Rattle.sw_search.proofs.Finish.{can, joined, exhausted}

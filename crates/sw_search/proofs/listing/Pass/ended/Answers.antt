@@ -2,7 +2,7 @@ use Rattle.std.specs.Prelude.{◌≡◌, ℕ}
 use Rattle.std.proofs.Common.{sym, subst}
 use Rattle.sw_filter.specs.declared.filter.Mode.TheVariants.{Breadth}
 use Rattle.sw_hand.specs.Hands.{search_of}
-use Rattle.sw_rounds.specs.Rounds.{IsCause, IsOnTheWay}
+use Rattle.sw_breadth.specs.Rounds.{IsCause, IsOnTheWay}
 use Rattle.sw_search.specs.Searches.{InBreadth, EndsBy, Ended}
 use Rattle.sw_search.proofs.Breadth.{spent_in, large_in}
 use Rattle.sw_search.proofs.listing.Pass.ended.Goals as goal

@@ -6,7 +6,7 @@ use Rattle.sw_enumerate.specs.Spaces.{Made, parts_in, formula_in}
 use Rattle.sw_log.specs.declared.entry.Entry.{Entry}
 use Rattle.sw_hand.specs.Hands.{search_of}
 use Rattle.sw_work.specs.Works.{CanSearch}
-use Rattle.sw_rounds.specs.Rounds.{IsGathered, listed}
+use Rattle.sw_breadth.specs.Rounds.{IsGathered, listed}
 use Rattle.sw_search.specs.Searches.{IsList}
 use Rattle.sw_search.specs.Spaces.{IsReadable}
 use Rattle.sw_search.proofs.Breadth.{is_list}

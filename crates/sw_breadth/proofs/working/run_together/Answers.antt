@@ -1,0 +1,32 @@
+use Rattle.std.proofs.Common.{◌≡◌, arith, ap, ◌∙◌, sym, subst}
+use Rattle.std.specs.List.{AllByRecursion}
+use Rattle.sw_claims.specs.ClaimsRule.{opened}
+use Rattle.sw_claims.specs.declared.rule.ClaimView.{ClaimView}
+use Rattle.sw_filter.specs.declared.filter.Mode.TheVariants.{Breadth}
+use Rattle.sw_log.specs.declared.entry.Entry.{Entry}
+use Rattle.sw_log.specs.declared.rule.LogView.{LogView}
+use Rattle.sw_hand.specs.Hands.{search_of}
+use Rattle.sw_walk.specs.Parts.{IsClass}
+use Rattle.sw_breadth.specs.declared.sharing.Figures.{Figures}
+use Rattle.sw_breadth.specs.Joins.{IsClosable}
+use Rattle.sw_breadth.proofs.Ends.{Listed, closed_cause, closed_whole}
+use Rattle.sw_breadth.proofs.Joins.{closable}
+use Rattle.sw_breadth.proofs.working.run_together.Goals as goal
+
+pub returns-clause-whole : goal.returns-clause-whole
+returns-clause-whole g c =
+    let t = c.args.task.now in
+    let m = search_of t.protocol.now (g.B.Walk.template t.space.now) Breadth t.workers in
+    let entries = c.args.entries.items in
+    let listed = subst (λ ps. AllByRecursion (λ (e : Entry). IsClass ps e.body) entries) c.requires.can.are_parts c.requires.classes in
+    let seen : c.in_ok-shared.first.log.view.seen ≡ entries = ap (λ (v : LogView). v.seen) c.in_ok-shared.ensures.log in
+    closed_whole m c.args.budget c.args.before entries c.together.new.first c.in_ok-joined.joined (omega (arith, c.requires.workers.0)) c.requires.placed listed (subst (λ (f : Figures). IsClosable m f.budget entries f.before c.together.new.first c.in_ok-joined.joined) c.in_ok-shared.ensures.figures (subst (λ es. IsClosable m c.in_ok-shared.shared.figures.budget es c.in_ok-shared.shared.figures.before c.together.new.first c.in_ok-joined.joined) seen (closable m c.in_ok-shared.shared.figures.budget t.pool.now c.in_ok-shared.first.log.view.seen c.in_ok-shared.shared.figures.before c.together.new.first c.in_ok-joined.joined c.in_ok-joined.ensures.joined))) c.close.result c.close.ensures.whole
+
+pub returns-clause-cause : goal.returns-clause-cause
+returns-clause-cause g c =
+    let t = c.args.task.now in
+    let m = search_of t.protocol.now (g.B.Walk.template t.space.now) Breadth t.workers in
+    let entries = c.args.entries.items in
+    let listed = subst (λ ps. AllByRecursion (λ (e : Entry). IsClass ps e.body) entries) c.requires.can.are_parts c.requires.classes in
+    let seen : c.in_ok-shared.first.log.view.seen ≡ entries = ap (λ (v : LogView). v.seen) c.in_ok-shared.ensures.log in
+    closed_cause m c.args.budget c.args.before entries c.together.new.first c.in_ok-joined.joined c.requires.placed listed (subst (λ (f : Figures). IsClosable m f.budget entries f.before c.together.new.first c.in_ok-joined.joined) c.in_ok-shared.ensures.figures (subst (λ es. IsClosable m c.in_ok-shared.shared.figures.budget es c.in_ok-shared.shared.figures.before c.together.new.first c.in_ok-joined.joined) seen (closable m c.in_ok-shared.shared.figures.budget t.pool.now c.in_ok-shared.first.log.view.seen c.in_ok-shared.shared.figures.before c.together.new.first c.in_ok-joined.joined c.in_ok-joined.ensures.joined))) c.close.result c.close.ensures.failed
