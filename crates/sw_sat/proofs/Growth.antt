@@ -3,28 +3,20 @@ use Rattle.std.specs.Prelude.{◌≡◌, ◌+◌, ◌<◌, ◌≤◌, ℕ, List,
 use Rattle.std.specs.List.{AllByRecursion}
 use Rattle.std.proofs.Common.{refl, sym, ap, ◌∙◌, inl, inr, subst, ⊎_elim, arith, append_assoc, length-append}
 use Rattle.std.proofs.lemmas.Bool.{cases_eq}
-use Rattle.std.proofs.lemmas.List.{length_push}
+use Rattle.std.proofs.lemmas.List.{append-nil, length_push}
 use Rattle.std.proofs.lemmas.List.Elements.{All-contains}
 use Rattle.std.proofs.lemmas.Option.{same_Some, slice_get_within}
 use Rattle.sw_refute.specs.declared.clauses.Clause.{Clause}
 use Rattle.sw_refute.specs.declared.clauses.Lit.{Lit}
 use Rattle.sw_refute.specs.Satisfaction.{variable, IsOver}
 use Rattle.sw_refute.specs.Propagation.{IsUnit}
-use Rattle.sw_sat.specs.declared.propagate.Reading.{Reading}
-use Rattle.sw_sat.specs.declared.propagate.Reading.TheVariants as reading
 use Rattle.sw_sat.specs.declared.propagate.Standing.{Standing}
 use Rattle.sw_sat.specs.declared.propagate.Standing.TheVariants as standing
 use Rattle.sw_sat.specs.declared.trail.Entry.{Entry}
 use Rattle.sw_sat.specs.declared.trail.Trail.{Trail}
-use Rattle.sw_sat.specs.Standing.{StandsAs, Reads}
+use Rattle.sw_sat.specs.Standing.{StandsAs}
 use Rattle.sw_sat.specs.Trail.{literals, IsSettled, MayFollow, IsTrail, Agrees, IsState, Grows}
 use Rattle.sw_sat.proofs.Founded.{push_trail, short}
-
--- what a reading of the clauses below this number came to
-abbrev pub ReadsSoFar : List Clause → List Entry → List Entry → ℕ → Reading → Type 0
-ReadsSoFar clauses old new n reading.Still = (new ≡ old) × ((k : ℕ) (c : Clause) → k < n → slice_get clauses k ≡ Some c → IsSettled (literals new) c)
-ReadsSoFar clauses old new n reading.Moved = length old < length new
-ReadsSoFar clauses old new n (reading.Conflict number) = ⊥
 
 pub settled_of : (known : List Lit) (c : Clause) (s : Standing) → StandsAs known c s → ((l : Lit) → s ≡ standing.Unit l → ⊥) → (s ≡ standing.Falsified → ⊥) → IsSettled known c
 settled_of known c standing.Satisfied a unit false = inl a
@@ -32,38 +24,22 @@ settled_of known c standing.Open a unit false = inr a
 settled_of known c (standing.Unit l) a unit false = absurd (unit l refl)
 settled_of known c standing.Falsified a unit false = absurd (false refl)
 
-module _ (clauses : List Clause) where
-  pub reads_next : (old new : List Entry) (n : ℕ) (r : Reading) (c : Clause) → ReadsSoFar clauses old new n r → slice_get clauses n ≡ Some c → IsSettled (literals new) c → ReadsSoFar clauses old new (n + 1) r
-  reads_next old new n reading.Still c a is s = (
-    a.0,
-    λ k d h at. ⊎_elim
-        (λ (e : k ≡ n). subst (IsSettled (literals new)) (same_Some c d (sym is ∙ subst (λ (m : ℕ). slice_get clauses m ≡ Some d) e at)) s)
-        (λ (e : k ≡ n → ⊥). a.1 k d (omega arith) at) (cases_eq k n),
-  )
-  reads_next old new n reading.Moved c a is s = a
-  reads_next old new n (reading.Conflict number) c a is s = a
+pub grows_none : (entries : List Entry) → Grows entries entries
+grows_none entries = record { more = []; is = sym (append-nil entries); forced = tt }
 
-  pub reads_end : (old new : List Entry) (n : ℕ) (r : Reading) → ReadsSoFar clauses old new n r → length clauses ≤ n → Reads clauses old new r
-  reads_end old new n reading.Still a h = (a.0, λ k c is. let w : k < length clauses = slice_get_within clauses k c is in a.1 k c (omega arith) is)
-  reads_end old new n reading.Moved a h = a
-  reads_end old new n (reading.Conflict number) a h = absurd a
-
-pub grows_push : (old mid new : List Entry) (e : Entry) → Grows old mid → new ≡ mid ++ e ∷ [] → (e.reason ≡ None → ⊥) → Grows old new
-grows_push old mid new e g is forced = record {
-  more = g.more ++ e ∷ [];
-  is = is ∙ ap (λ es. es ++ e ∷ []) g.is ∙ append_assoc old g.more (e ∷ []);
+pub grows_more : (old mid new : List Entry) → Grows old mid → Grows mid new → Grows old new
+grows_more old mid new g h = record {
+  more = g.more ++ h.more;
+  is = h.is ∙ ap (λ es. es ++ h.more) g.is ∙ append_assoc old g.more h.more;
   forced = all_forced g.more g.forced;
 }
   where
-    all_forced : (more : List Entry) → AllByRecursion (λ (x : Entry). x.reason ≡ None → ⊥) more → AllByRecursion (λ (x : Entry). x.reason ≡ None → ⊥) (more ++ e ∷ [])
-    all_forced [] a = (forced, tt)
+    all_forced : (more : List Entry) → AllByRecursion (λ (x : Entry). x.reason ≡ None → ⊥) more → AllByRecursion (λ (x : Entry). x.reason ≡ None → ⊥) (more ++ h.more)
+    all_forced [] a = h.forced
     all_forced (x ∷ more) a = (a.0, all_forced more a.1)
 
-pub moved : (old mid new : List Entry) (e : Entry) → Grows old mid → new ≡ mid ++ e ∷ [] → length old < length new
-moved old mid new e g is =
-    let n : length new ≡ length mid + 1 = ap length is ∙ length_push mid e in
-    let m : length mid ≡ length old + length g.more = ap length g.is ∙ length-append old g.more in
-    omega arith
+pub grows_length : (old new : List Entry) → Grows old new → length old ≤ length new
+grows_length old new g = let n : length new ≡ length old + length g.more = ap length g.is ∙ length-append old g.more in omega arith
 
 module _ (variables : ℕ) (clauses : List Clause) where
   pub unit_follows : (entries : List Entry) (number : ℕ) (c : Clause) (l : Lit) → slice_get clauses number ≡ Some c → IsUnit (literals entries) c l → IsOver variables c

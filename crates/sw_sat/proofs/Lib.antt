@@ -3,6 +3,8 @@ mod Positions
 mod Agreement
 mod Examined
 mod Growth
+mod Quiet
+mod Occurring
 mod Models
 mod SeenLiterals
 mod Founded

@@ -3,3 +3,4 @@ pub mod Trail
 pub mod Standing
 pub mod Analysis
 pub mod Progress
+pub mod Occurring

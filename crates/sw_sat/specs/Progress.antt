@@ -11,7 +11,8 @@ use Rattle.sw_sat.specs.declared.solver.Turn.TheVariants as turn
 use Rattle.sw_sat.specs.declared.trail.Entry.{Entry}
 use Rattle.sw_sat.specs.declared.trail.Trail.{Trail}
 use Rattle.sw_sat.specs.Answers.{IsNonempty, AreNew, IsRefutation, IsSpent}
-use Rattle.sw_sat.specs.Trail.{IsState, IsFixpoint, IsUnassigned, all_clauses, literals}
+use Rattle.sw_sat.specs.Occurring.{IsIndex}
+use Rattle.sw_sat.specs.Trail.{IsState, IsFixpoint, IsReady, IsUnassigned, all_clauses, literals}
 
 -- the literal that the variable is true
 abbrev pub positive : ℕ → Lit
@@ -76,3 +77,15 @@ Turns cnf budget old trail steps turn.On = IsSearch cnf budget steps trail × (l
 Turns cnf budget old trail steps turn.Satisfied = IsSearch cnf budget steps trail × IsFixpoint (all_clauses cnf steps) (literals trail.entries.items) × IsTotal cnf.variables trail.entries.items
 Turns cnf budget old trail steps turn.Refuted = IsRefutation cnf budget steps
 Turns cnf budget old trail steps turn.Spent = IsSpent cnf budget steps
+
+-- the lists of occurrences are those of the clauses, and propagation had nothing to do before the last entry
+pub record IsPrepared (cnf : Cnf) (steps : List Derived) (lists : List (List ℕ)) (entries : List Entry) : Type 0 where
+  pub index : IsIndex cnf.variables (all_clauses cnf steps) lists
+  pub ready : IsReady (all_clauses cnf steps) entries
+
+-- the next turn, if there is one, is prepared
+abbrev pub IsPreparedAfter : Cnf → List Derived → List (List ℕ) → List Entry → Turn → Type 0
+IsPreparedAfter cnf steps lists entries turn.On = IsPrepared cnf steps lists entries
+IsPreparedAfter cnf steps lists entries turn.Satisfied = Unit {0}
+IsPreparedAfter cnf steps lists entries turn.Refuted = Unit {0}
+IsPreparedAfter cnf steps lists entries turn.Spent = Unit {0}

@@ -1,5 +1,5 @@
 -- The trail of a search: what is true, in which order it became so, and why.
-use Rattle.std.specs.Prelude.{◌≡◌, ◌+◌, ◌*◌, ◌<◌, ◌≤◌, ◌↔◌, ◌⊎◌, ℕ, Bool, true, false, List, ◌++◌, length, map, take, None, Some, slice_get, slice_index_or, vec_capacity, All, Contains}
+use Rattle.std.specs.Prelude.{◌≡◌, ◌+◌, ◌-◌, ◌*◌, ◌<◌, ◌≤◌, ◌↔◌, ◌⊎◌, ℕ, Bool, true, false, List, [], ◌++◌, length, map, take, None, Some, slice_get, slice_index_or, vec_capacity, All, Contains}
 use Rattle.std.specs.List.{AllByRecursion}
 use Rattle.sw_refute.specs.declared.clauses.Lit.{Lit}
 use Rattle.sw_refute.specs.declared.clauses.Clause.{Clause}
@@ -47,6 +47,34 @@ IsSettled known c = IsTrueClause known c ⊎ IsOpenClause known c
 -- where these literals are true, propagation has nothing to do
 abbrev pub IsFixpoint : List Clause → List Lit → Type 0
 IsFixpoint clauses known = (number : ℕ) (c : Clause) → slice_get clauses number ≡ Some c → IsSettled known c
+
+-- where these literals are true, the clause of this number is neither false nor a unit
+abbrev pub IsSettledAt : List Clause → List Lit → ℕ → Type 0
+IsSettledAt clauses known number = (c : Clause) → slice_get clauses number ≡ Some c → IsSettled known c
+
+-- a literal of the clause became false at this position of the trail or after it
+pub record IsAwaited (entries : List Entry) (from : ℕ) (c : Clause) : Type 0 where
+  pub at : ℕ
+  pub low : from ≤ at
+  pub entry : Entry
+  pub is : slice_get entries at ≡ Some entry
+  pub among : Contains c.lits (negation entry.lit)
+
+-- the clause is neither false nor a unit, or will be read when propagation comes to a later entry
+abbrev pub IsQuiet : List Entry → ℕ → Clause → Type 0
+IsQuiet entries from c = IsSettled (literals entries) c ⊎ IsAwaited entries from c
+
+-- so is each clause of these numbers
+abbrev pub AreQuiet : List Clause → List ℕ → List Entry → ℕ → Type 0
+AreQuiet clauses numbers entries from = (number : ℕ) (c : Clause) → Contains numbers number → slice_get clauses number ≡ Some c → IsQuiet entries from c
+
+-- so is each clause
+abbrev pub IsQuietFrom : List Clause → List Entry → ℕ → Type 0
+IsQuietFrom clauses entries from = (number : ℕ) (c : Clause) → slice_get clauses number ≡ Some c → IsQuiet entries from c
+
+-- before the last entry propagation had nothing to do, if there is one
+abbrev pub IsReady : List Clause → List Entry → Type 0
+IsReady clauses entries = (entries ≡ [] → ⊥) → IsQuietFrom clauses entries (length entries - 1)
 
 -- the clause of this number makes the literal true
 pub record Forces (clauses : List Clause) (known : List Lit) (number : ℕ) (l : Lit) : Type 0 where

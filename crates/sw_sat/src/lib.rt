@@ -4,6 +4,7 @@
 
 mod analyze;
 mod literals;
+mod occurrences;
 mod propagate;
 mod solved;
 mod solver;

@@ -4,10 +4,12 @@ ghost use Rattle.std.specs.Bool.{OnFalse};
 ghost use Rattle.sw_refute.specs.Satisfaction.{IsOver, IsWellFormed};
 ghost use Rattle.sw_sat.specs.Answers.{Answers};
 ghost use Rattle.sw_sat.specs.Analysis.{IsLearnt};
-ghost use Rattle.sw_sat.specs.Progress.{IsSearch, IsTotal, IsFree, IsValuation, Decides, GoesBack, Turns};
-ghost use Rattle.sw_sat.specs.Trail.{all_clauses, literals, Agrees, IsState, IsFixpoint, IsConflict, Grows};
+ghost use Rattle.sw_sat.specs.Progress.{IsSearch, IsTotal, IsFree, IsValuation, Decides, GoesBack, Turns, IsPrepared, IsPreparedAfter};
+ghost use Rattle.sw_sat.specs.Occurring.{lists_of, IsIndex};
+ghost use Rattle.sw_sat.specs.Trail.{all_clauses, literals, Agrees, IsState, IsFixpoint, IsConflict, IsReady, Grows};
 
 use crate::analyze::{Learnt, analyze, refute};
+use crate::occurrences::Occurrences;
 use crate::propagate::propagate;
 use crate::solved::Solved;
 use crate::trail::Trail;
@@ -56,6 +58,7 @@ fn decide(cnf: &Cnf, steps: &[Derived], trail: &mut Trail) -> bool
     requires state { IsState cnf.now.variables (all_clauses cnf.now steps.now) trail.old }
     requires fixpoint { IsFixpoint (all_clauses cnf.now steps.now) (literals trail.old.entries.items) }
     ensures state { IsState cnf.now.variables (all_clauses cnf.now steps.now) trail.new }
+    ensures ready { IsReady (all_clauses cnf.now steps.now) trail.new.entries.items }
     ensures decided { MatchBool result (Decides trail.old.entries.items trail.new.entries.items) (IsTotal cnf.now.variables trail.new.entries.items) }
     ensures unchanged { OnFalse result (trail.new.entries.items ≡ trail.old.entries.items) }
 {
@@ -86,15 +89,19 @@ fn model(alloc: Global, trail: &Trail, variables: u32) -> Result<Vec<bool>, Allo
 fn learn(
     cnf: &Cnf,
     steps: &mut Vec<Derived>,
+    occurrences: &mut Occurrences,
     trail: &mut Trail,
     learnt: Learnt,
 ) -> Result<(), AllocError>
     requires state { IsState cnf.now.variables (all_clauses cnf.now steps.old.items) trail.old }
     requires numbered { length (all_clauses cnf.now steps.old.items) ≤ 2 ^ 32 }
+    requires index { IsIndex cnf.now.variables (all_clauses cnf.now steps.old.items) (lists_of occurrences.old) }
     requires learnt { IsLearnt cnf.now.variables (all_clauses cnf.now steps.old.items) trail.old.entries.items learnt }
     ensures steps { IfOk result (λ _. steps.new.items ≡ steps.old.items ++ learnt.step ∷ []) }
     ensures numbered { IfOk result (λ _. length (all_clauses cnf.now steps.new.items) ≤ 2 ^ 32) }
     ensures state { IfOk result (λ _. IsState cnf.now.variables (all_clauses cnf.now steps.new.items) trail.new) }
+    ensures index { IfOk result (λ _. IsIndex cnf.now.variables (all_clauses cnf.now steps.new.items) (lists_of occurrences.new)) }
+    ensures ready { IfOk result (λ _. IsReady (all_clauses cnf.now steps.new.items) trail.new.entries.items) }
     ensures back { IfOk result (λ _. GoesBack learnt trail.old.entries.items trail.new.entries.items) }
 {
     let Learnt {
@@ -106,6 +113,7 @@ fn learn(
     if number >= MOST_CLAUSES {
         return Err(AllocError);
     }
+    occurrences.add(&step.clause, number as u32)?;
     steps.push(step)?;
     trail.backjump(keep);
     trail.assign(asserting, Some(number as u32));
@@ -118,13 +126,16 @@ fn handle_conflict(
     cnf: &Cnf,
     budget: Option<u64>,
     steps: &mut Vec<Derived>,
+    occurrences: &mut Occurrences,
     trail: &mut Trail,
     conflict: u32,
 ) -> Result<Turn, AllocError>
     requires over { All (IsOver cnf.now.variables) (all_clauses cnf.now steps.old.items) }
     requires found { IsSearch cnf.now budget steps.old.items trail.old }
+    requires index { IsIndex cnf.now.variables (all_clauses cnf.now steps.old.items) (lists_of occurrences.old) }
     requires conflict { IsConflict (all_clauses cnf.now steps.old.items) (literals trail.old.entries.items) conflict }
-    ensures { IfOk result (Turns cnf.now budget trail.old trail.new steps.new.items) }
+    ensures turns { IfOk result (Turns cnf.now budget trail.old trail.new steps.new.items) }
+    ensures prepared { IfOk result (IsPreparedAfter cnf.now steps.new.items (lists_of occurrences.new) trail.new.entries.items) }
 {
     let Some(start) = trail.last_decision() else {
         let step = refute(alloc, cnf, steps.as_slice(), trail, conflict)?;
@@ -135,7 +146,7 @@ fn handle_conflict(
         return Ok(Turn::Spent);
     }
     let learnt = analyze(alloc, cnf, steps.as_slice(), trail, start, conflict)?;
-    learn(cnf, steps, trail, learnt)?;
+    learn(cnf, steps, occurrences, trail, learnt)?;
     Ok(Turn::On)
 }
 
@@ -145,14 +156,17 @@ fn take_turn(
     cnf: &Cnf,
     budget: Option<u64>,
     steps: &mut Vec<Derived>,
+    occurrences: &mut Occurrences,
     trail: &mut Trail,
 ) -> Result<Turn, AllocError>
     requires well_formed { IsWellFormed cnf.now }
     requires found { IsSearch cnf.now budget steps.old.items trail.old }
-    ensures { IfOk result (Turns cnf.now budget trail.old trail.new steps.new.items) }
+    requires prepared { IsPrepared cnf.now steps.old.items (lists_of occurrences.old) trail.old.entries.items }
+    ensures turns { IfOk result (Turns cnf.now budget trail.old trail.new steps.new.items) }
+    ensures prepared { IfOk result (IsPreparedAfter cnf.now steps.new.items (lists_of occurrences.new) trail.new.entries.items) }
 {
-    match propagate(cnf, steps.as_slice(), trail) {
-        Some(conflict) => handle_conflict(alloc, cnf, budget, steps, trail, conflict),
+    match propagate(cnf, steps.as_slice(), occurrences, trail) {
+        Some(conflict) => handle_conflict(alloc, cnf, budget, steps, occurrences, trail, conflict),
         None => {
             if decide(cnf, steps.as_slice(), trail) {
                 Ok(Turn::On)
@@ -177,9 +191,10 @@ pub fn solve(alloc: Global, cnf: &Cnf, budget: Option<u64>) -> Result<Solved, Al
         return Err(AllocError);
     }
     let mut steps = Vec::new(alloc);
+    let mut occurrences = Occurrences::of_set(alloc, cnf)?;
     let mut trail = Trail::new(alloc, cnf.variables)?;
     loop {
-        match take_turn(alloc, cnf, budget, &mut steps, &mut trail)? {
+        match take_turn(alloc, cnf, budget, &mut steps, &mut occurrences, &mut trail)? {
             Turn::On => {}
             Turn::Satisfied => return Ok(Solved::Satisfied(model(alloc, &trail, cnf.variables)?)),
             Turn::Refuted => return Ok(Solved::Refuted(steps)),

@@ -6,20 +6,20 @@ use Rattle.sw_sat.specs.Trail.{all_clauses}
 use Rattle.sw_sat.proofs.Turning.{refuted, spent, learnt_turn, option_is, option_is_not}
 use Rattle.sw_sat.proofs.solver.handle_conflict.Goals as goal
 
-pub returns-in_default : goal.returns-in_default
-returns-in_default c =
+pub returns-in_default-clause-turns : goal.returns-in_default-clause-turns
+returns-in_default-clause-turns c =
     refuted c.args.cnf.now c.args.budget c.args.steps.now.items c.args.trail.now c.in_ok-step.step c.push.new.self.items c.requires.found
     (subst (λ s. IsAccepted c.args.cnf.now.variables (all_clauses c.args.cnf.now s) c.in_ok-step.step) c.as_slice.ensures.value c.in_ok-step.ensures.accepted)
     c.in_ok-step.ensures.empty c.in_ok-push.ensures.items
 
-pub returns-then-eq : goal.returns-then-eq
-returns-then-eq c =
+pub returns-then-eq-clause-turns : goal.returns-then-eq-clause-turns
+returns-then-eq-clause-turns c =
     let n : c.len.result ≡ length c.args.steps.now.items = omega (arith, c.len.ensures) in
     spent c.args.cnf.now c.args.budget c.args.steps.now.items c.args.trail.now c.requires.found
     (option_is c.args.budget (length c.args.steps.now.items) (subst (λ k. option_eq eqb c.args.budget (Some k) ≡ true) n (sym c.eq.ensures ∙ c.if-eq.true)))
 
-pub returns : goal.returns
-returns c =
+pub returns-clause-turns : goal.returns-clause-turns
+returns-clause-turns c =
     let steps = c.args.steps.now.items in
     let n : c.len.result ≡ length steps = omega (arith, c.len.ensures) in
     learnt_turn c.args.cnf.now c.args.budget steps c.args.trail.now c.learn.new.trail c.in_ok-learnt.learnt c.learn.new.steps.items c.requires.found

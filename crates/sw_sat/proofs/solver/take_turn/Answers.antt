@@ -22,15 +22,15 @@ handle_conflict-requires-clause-found c =
     grown_search c.args.cnf.now c.args.budget c.args.steps.now.items c.args.trail.now c.propagate.new.trail c.requires.found
     (subst (λ s. IsState c.args.cnf.now.variables (all_clauses c.args.cnf.now s) c.propagate.new.trail) c.as_slice.ensures.value c.propagate.ensures.state) c.propagate.ensures.grows
 
-pub returns-in-Some : goal.returns-in-Some
-returns-in-Some c =
+pub returns-in-Some-clause-turns : goal.returns-in-Some-clause-turns
+returns-in-Some-clause-turns c =
     let h = grown_left c.args.cnf.now c.args.budget c.args.steps.now.items c.args.trail.now c.propagate.new.trail c.propagate.ensures.grows in
     IfOk-weaker c.handle_conflict.result (Turns c.args.cnf.now c.args.budget c.propagate.new.trail c.handle_conflict.new.trail c.handle_conflict.new.steps.items)
     (Turns c.args.cnf.now c.args.budget c.args.trail.now c.handle_conflict.new.trail c.handle_conflict.new.steps.items)
-    (λ t a. turns_from c.args.cnf.now c.args.budget c.handle_conflict.new.steps.items c.args.trail.now c.propagate.new.trail c.handle_conflict.new.trail t h a) c.handle_conflict.ensures
+    (λ t a. turns_from c.args.cnf.now c.args.budget c.handle_conflict.new.steps.items c.args.trail.now c.propagate.new.trail c.handle_conflict.new.trail t h a) c.handle_conflict.ensures.turns
 
-pub returns-then-decide : goal.returns-then-decide
-returns-then-decide c =
+pub returns-then-decide-clause-turns : goal.returns-then-decide-clause-turns
+returns-then-decide-clause-turns c =
     let steps = c.args.steps.now.items in
     let state = subst (λ s. IsState c.args.cnf.now.variables (all_clauses c.args.cnf.now s) c.propagate.new.trail) c.as_slice.ensures.value c.propagate.ensures.state in
     let found = grown_search c.args.cnf.now c.args.budget steps c.args.trail.now c.propagate.new.trail c.requires.found state c.propagate.ensures.grows in
@@ -39,8 +39,8 @@ returns-then-decide c =
     turns_from c.args.cnf.now c.args.budget steps c.args.trail.now c.propagate.new.trail c.decide.new.trail turn.On h
     (decided_turn c.args.cnf.now c.args.budget steps c.propagate.new.trail c.decide.new.trail found decided c.if-decide.ensures.decided)
 
-pub returns-else-decide : goal.returns-else-decide
-returns-else-decide c =
+pub returns-else-decide-clause-turns : goal.returns-else-decide-clause-turns
+returns-else-decide-clause-turns c =
     let steps = c.args.steps.now.items in
     let state = subst (λ s. IsState c.args.cnf.now.variables (all_clauses c.args.cnf.now s) c.propagate.new.trail) c.as_slice.ensures.value c.propagate.ensures.state in
     let found = grown_search c.args.cnf.now c.args.budget steps c.args.trail.now c.propagate.new.trail c.requires.found state c.propagate.ensures.grows in
