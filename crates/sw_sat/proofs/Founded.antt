@@ -68,6 +68,7 @@ module _ (variables : ℕ) (clauses : List Clause) (entries : List Entry) (trail
     unassigned = m.unassigned;
     forced = λ n h. let f = m.forced n h in record { clause = f.clause; is = get_append_left clauses (c ∷ []) n f.clause f.is; unit = f.unit };
     decided = λ h n d is. ⊎_elim (λ old. m.decided h n d old) (λ (new : (n ≡ length clauses) × (d ≡ c)). subst (IsSettled (literals front)) (sym new.1) (settled h)) (get_push_cases clauses c n d is);
+    lowest = m.lowest;
   }
 
   -- the front of a trail, for one more clause with which propagation had nothing to do at the decisions

@@ -1,11 +1,10 @@
 -- How a trail grows.
 use Rattle.std.specs.Prelude.{◌≡◌, ◌+◌, ◌<◌, ◌≤◌, ℕ, List, [], ◌∷◌, ◌++◌, length, None, Some, slice_get, vec_capacity}
 use Rattle.std.specs.List.{AllByRecursion}
-use Rattle.std.proofs.Common.{refl, sym, ap, ◌∙◌, inl, inr, subst, ⊎_elim, arith, append_assoc, length-append}
-use Rattle.std.proofs.lemmas.Bool.{cases_eq}
+use Rattle.std.proofs.Common.{refl, sym, ap, ◌∙◌, inl, inr, subst, arith, append_assoc, length-append}
 use Rattle.std.proofs.lemmas.List.{append-nil, length_push}
 use Rattle.std.proofs.lemmas.List.Elements.{All-contains}
-use Rattle.std.proofs.lemmas.Option.{same_Some, slice_get_within}
+use Rattle.std.proofs.lemmas.Option.{same_Some}
 use Rattle.sw_refute.specs.declared.clauses.Clause.{Clause}
 use Rattle.sw_refute.specs.declared.clauses.Lit.{Lit}
 use Rattle.sw_refute.specs.Satisfaction.{variable, IsOver}
@@ -49,6 +48,7 @@ module _ (variables : ℕ) (clauses : List Clause) where
     unassigned = unit.unassigned;
     forced = λ n h. record { clause = c; is = subst (λ (m : ℕ). slice_get clauses m ≡ Some c) (same_Some number n h) is; unit = unit };
     decided = λ h. absurd (cc);
+    lowest = λ h. absurd (cc);
   }
 
   pub room_left : (entries : List Entry) (e : Entry) → IsTrail variables clauses entries → MayFollow variables clauses entries e → length entries < variables

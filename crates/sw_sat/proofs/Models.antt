@@ -12,8 +12,8 @@ use Rattle.sw_refute.specs.Satisfaction.{variable, negation, is_positive, lit_ho
 use Rattle.sw_refute.specs.Propagation.{clauses_of}
 use Rattle.sw_sat.specs.declared.trail.Entry.{Entry}
 use Rattle.sw_sat.specs.Answers.{assignment_of, IsModel}
-use Rattle.sw_sat.specs.Progress.{positive, negative, IsTotal, IsValuation}
-use Rattle.sw_sat.specs.Trail.{literals, IsUnassigned, IsTrueClause, IsOpenClause, IsFixpoint, IsTrail}
+use Rattle.sw_sat.specs.Progress.{IsTotal, IsValuation}
+use Rattle.sw_sat.specs.Trail.{literals, IsUnassigned, IsTrueClause, IsOpenClause, IsFixpoint, IsTrail, positive, negative}
 use Rattle.sw_sat.proofs.Founded.{consistent, over_at}
 use Rattle.sw_sat.proofs.Negation.{same_variable, negation_cases}
 use Rattle.sw_refute.proofs.Literals.{same_literal, negation_twice}

@@ -1,18 +1,16 @@
 -- Which clauses wait to be read, as a trail grows.
-use Rattle.std.specs.Prelude.{◌≡◌, ◌+◌, ◌-◌, ◌<◌, ◌≤◌, ◌⊎◌, ℕ, List, [], ◌∷◌, ◌++◌, length, take, Some, slice_get, Contains}
-use Rattle.std.proofs.Common.{refl, sym, ap, ◌∙◌, inl, inr, subst, ⊎_elim, arith, append_assoc, get_or}
+use Rattle.std.specs.Prelude.{◌≡◌, ◌+◌, ◌-◌, ◌<◌, ◌≤◌, ◌⊎◌, ℕ, List, [], ◌∷◌, ◌++◌, length, Some, slice_get, Contains}
+use Rattle.std.proofs.Common.{sym, ap, ◌∙◌, inl, inr, subst, ⊎_elim, arith, append_assoc, get_or}
 use Rattle.std.proofs.lemmas.Bool.{cases_eq}
-use Rattle.std.proofs.lemmas.List.{append-nil, length_push, take_more}
-use Rattle.std.proofs.lemmas.List.Elements.{Contains-push_cases}
+use Rattle.std.proofs.lemmas.List.{append-nil, length_push}
 use Rattle.std.proofs.lemmas.Option.{same_Some, slice_get_within}
 use Rattle.sw_refute.specs.declared.clauses.Clause.{Clause}
 use Rattle.sw_refute.specs.declared.clauses.Lit.{Lit}
 use Rattle.sw_refute.specs.Satisfaction.{negation}
-use Rattle.sw_refute.specs.Propagation.{IsUnit}
 use Rattle.sw_refute.proofs.Literals.{same_literal, negation_twice}
 use Rattle.sw_sat.specs.declared.trail.Entry.{Entry}
 use Rattle.sw_sat.specs.Occurring.{IsIndex}
-use Rattle.sw_sat.specs.Trail.{literals, IsUnassigned, IsTrueClause, IsOpenClause, IsSettled, IsFixpoint, IsAwaited, IsQuiet, AreQuiet, IsQuietFrom, IsReady, Grows}
+use Rattle.sw_sat.specs.Trail.{literals, IsUnassigned, IsOpenClause, IsSettled, IsFixpoint, IsQuiet, AreQuiet, IsQuietFrom, IsReady, Grows}
 use Rattle.sw_sat.proofs.Agreement.{push_cases, push_left, push_right}
 use Rattle.sw_lists.proofs.Places.{get_append_left, get_append_at, get_push_cases}
 

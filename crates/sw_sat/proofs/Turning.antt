@@ -21,8 +21,8 @@ use Rattle.sw_sat.specs.declared.trail.Entry.{Entry}
 use Rattle.sw_sat.specs.declared.trail.Trail.{Trail}
 use Rattle.sw_sat.specs.Analysis.{IsLearnt}
 use Rattle.sw_sat.specs.Answers.{IsNonempty, AreNew, IsRefutation, IsSpent}
-use Rattle.sw_sat.specs.Progress.{weight, left, IsSearch, Turns, Decides, GoesBack, IsFree, negative}
-use Rattle.sw_sat.specs.Trail.{literals, all_clauses, IsFixpoint, MayFollow, IsTrail, IsPlain, IsState, Grows}
+use Rattle.sw_sat.specs.Progress.{weight, left, IsSearch, Turns, Decides, GoesBack, IsFirstFree}
+use Rattle.sw_sat.specs.Trail.{literals, negative, all_clauses, AreAssigned, IsFixpoint, MayFollow, IsTrail, IsPlain, IsState, Grows}
 use Rattle.sw_sat.proofs.Founded.{short, front_trail}
 use Rattle.sw_sat.proofs.Negation.{number_below}
 use Rattle.sw_lists.proofs.Places.{get_append_at}
@@ -56,16 +56,18 @@ module _ (variables : ℕ) (clauses : List Clause) (entries : List Entry) (learn
       unit = good.unit;
     };
     decided = λ h. absurd (cc);
+    lowest = λ h. absurd (cc);
   }
 
 -- a decision on an unassigned variable
-pub decision_follows : (variables : ℕ) (clauses : List Clause) (entries : List Entry) (v : ℕ) → IsFree variables entries v → IsFixpoint clauses (literals entries)
+pub decision_follows : (variables : ℕ) (clauses : List Clause) (entries : List Entry) (v : ℕ) → IsFirstFree variables entries v → IsFixpoint clauses (literals entries)
     → MayFollow variables clauses entries (record { lit = negative v; reason = None })
 decision_follows variables clauses entries v free fixpoint = record {
   over = let h : v < variables = free.within in omega arith;
   unassigned = free.unassigned;
   forced = λ n h. absurd (cc);
   decided = λ _. fixpoint;
+  lowest = λ _. let i : variable (negative v) ≡ v = omega arith in subst (λ (n : ℕ). AreAssigned n entries) (sym i) free.before;
 }
 
 pub budget_more : (budget : Option ℕ) (n : ℕ) → IfSome budget (λ most. n ≤ most) → (budget ≡ Some n → ⊥) → IfSome budget (λ most. n + 1 ≤ most)

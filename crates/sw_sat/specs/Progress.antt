@@ -1,5 +1,5 @@
 -- The search as a whole, and why it ends.
-use Rattle.std.specs.Prelude.{◌≡◌, ◌+◌, ◌-◌, ◌*◌, ◌^◌, ◌<◌, ◌≤◌, ◌↔◌, ◌⊎◌, ℕ, zero, suc, Bool, true, false, List, [], ◌∷◌, ◌++◌, length, take, Option, None, IfSome, is_some, if◌then◌else◌, slice_index_or, Contains}
+use Rattle.std.specs.Prelude.{◌≡◌, ◌+◌, ◌-◌, ◌*◌, ◌^◌, ◌<◌, ◌≤◌, ◌↔◌, ℕ, zero, suc, Bool, true, false, List, [], ◌∷◌, ◌++◌, length, take, Option, None, IfSome, is_some, if◌then◌else◌, slice_index_or, Contains}
 use Rattle.std.specs.List.{AllByRecursion}
 use Rattle.sw_refute.specs.declared.clauses.Cnf.{Cnf}
 use Rattle.sw_refute.specs.declared.clauses.Derived.{Derived}
@@ -12,23 +12,16 @@ use Rattle.sw_sat.specs.declared.trail.Entry.{Entry}
 use Rattle.sw_sat.specs.declared.trail.Trail.{Trail}
 use Rattle.sw_sat.specs.Answers.{IsNonempty, AreNew, IsRefutation, IsSpent}
 use Rattle.sw_sat.specs.Occurring.{IsIndex}
-use Rattle.sw_sat.specs.Trail.{IsState, IsFixpoint, IsReady, IsUnassigned, all_clauses, literals}
-
--- the literal that the variable is true
-abbrev pub positive : ℕ → Lit
-positive v = record { 0 = 2 * v }
-
--- the literal that the variable is false
-abbrev pub negative : ℕ → Lit
-negative v = record { 0 = 2 * v + 1 }
+use Rattle.sw_sat.specs.Trail.{AreAssigned, IsState, IsFixpoint, IsReady, IsUnassigned, all_clauses, literals, positive, negative}
 
 -- every variable is assigned
 abbrev pub IsTotal : ℕ → List Entry → Type 0
-IsTotal variables entries = (v : ℕ) → v < variables → Contains (literals entries) (positive v) ⊎ Contains (literals entries) (negative v)
+IsTotal variables entries = AreAssigned variables entries
 
--- the variable is not assigned
-pub record IsFree (variables : ℕ) (entries : List Entry) (v : ℕ) : Type 0 where
+-- the variable is the first that is not assigned
+pub record IsFirstFree (variables : ℕ) (entries : List Entry) (v : ℕ) : Type 0 where
   pub within : v < variables
+  pub before : AreAssigned v entries
   pub unassigned : IsUnassigned (literals entries) (negative v)
 
 -- the values of the variables below this number, where these literals are true

@@ -22,6 +22,18 @@ HasValues values c = All (λ l. (l.0 < length values) × ((negation l).0 < lengt
 abbrev pub literals : List Entry → List Lit
 literals entries = map (λ e. e.lit) entries
 
+-- the literal that the variable is true
+abbrev pub positive : ℕ → Lit
+positive v = record { 0 = 2 * v }
+
+-- the literal that the variable is false
+abbrev pub negative : ℕ → Lit
+negative v = record { 0 = 2 * v + 1 }
+
+-- the variables below this number are assigned
+abbrev pub AreAssigned : ℕ → List Entry → Type 0
+AreAssigned below entries = (v : ℕ) → v < below → Contains (literals entries) (positive v) ⊎ Contains (literals entries) (negative v)
+
 -- where these literals are true, neither this one nor its negation is
 abbrev pub IsUnassigned : List Lit → Lit → Type 0
 IsUnassigned known l = (Contains known l → ⊥) × (IsFalse known l → ⊥)
@@ -89,12 +101,13 @@ pub record IsConflict (clauses : List Clause) (known : List Lit) (number : ℕ) 
   pub false : IsConflicting known clause
 
 -- the entry may stand after these: its literal is of an unassigned variable, and either was forced or
--- was decided where propagation had nothing to do
+-- was decided where propagation had nothing to do and all variables before it were assigned
 pub record MayFollow (variables : ℕ) (clauses : List Clause) (before : List Entry) (e : Entry) : Type 0 where
   pub over : variable e.lit < variables
   pub unassigned : IsUnassigned (literals before) e.lit
   pub forced : (number : ℕ) → e.reason ≡ Some number → Forces clauses (literals before) number e.lit
   pub decided : e.reason ≡ None → IsFixpoint clauses (literals before)
+  pub lowest : e.reason ≡ None → AreAssigned (variable e.lit) before
 
 -- each entry may stand after those before it
 pub record IsTrail (variables : ℕ) (clauses : List Clause) (entries : List Entry) : Type 0 where

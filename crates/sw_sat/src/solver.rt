@@ -4,9 +4,9 @@ ghost use Rattle.std.specs.Bool.{OnFalse};
 ghost use Rattle.sw_refute.specs.Satisfaction.{IsOver, IsWellFormed};
 ghost use Rattle.sw_sat.specs.Answers.{Answers};
 ghost use Rattle.sw_sat.specs.Analysis.{IsLearnt};
-ghost use Rattle.sw_sat.specs.Progress.{IsSearch, IsTotal, IsFree, IsValuation, Decides, GoesBack, Turns, IsPrepared, IsPreparedAfter};
+ghost use Rattle.sw_sat.specs.Progress.{IsSearch, IsTotal, IsFirstFree, IsValuation, Decides, GoesBack, Turns, IsPrepared, IsPreparedAfter};
 ghost use Rattle.sw_sat.specs.Occurring.{lists_of, IsIndex};
-ghost use Rattle.sw_sat.specs.Trail.{all_clauses, literals, Agrees, IsState, IsFixpoint, IsConflict, IsReady, Grows};
+ghost use Rattle.sw_sat.specs.Trail.{all_clauses, literals, Agrees, AreAssigned, IsTrail, IsState, IsFixpoint, IsConflict, IsReady, Grows};
 
 use crate::analyze::{Learnt, analyze, refute};
 use crate::occurrences::Occurrences;
@@ -35,14 +35,26 @@ pub enum Turn {
     Spent,
 }
 
-/// The first variable that is not assigned.
-fn unassigned(trail: &Trail, variables: u32) -> Option<u32>
+/// The variable of the last decision, before which all are assigned, or else the first variable.
+fn decided(cnf: &Cnf, steps: &[Derived], trail: &Trail) -> u32
+    requires { IsTrail cnf.now.variables (all_clauses cnf.now steps.now) trail.now.entries.items }
+    ensures { AreAssigned result trail.now.entries.items }
+{
+    match trail.last_decision() {
+        Some(at) => trail.entries[at].lit.0 / 2,
+        None => 0,
+    }
+}
+
+/// The first variable that is not assigned, where those before this one are.
+fn unassigned(trail: &Trail, from: u32, variables: u32) -> Option<u32>
     requires small { variables ≤ 2 ^ 31 }
+    requires before { AreAssigned from trail.now.entries.items }
     requires agrees { Agrees trail.now }
     requires size { length trail.now.values.items ≡ 2 * variables }
-    ensures { MatchOption result (IsTotal variables trail.now.entries.items) (IsFree variables trail.now.entries.items) }
+    ensures { MatchOption result (IsTotal variables trail.now.entries.items) (IsFirstFree variables trail.now.entries.items) }
 {
-    let mut variable = 0;
+    let mut variable = from;
     while variable < variables {
         if !trail.is_true(Lit(2 * variable)) && !trail.is_true(Lit(2 * variable + 1)) {
             return Some(variable);
@@ -62,7 +74,7 @@ fn decide(cnf: &Cnf, steps: &[Derived], trail: &mut Trail) -> bool
     ensures decided { MatchBool result (Decides trail.old.entries.items trail.new.entries.items) (IsTotal cnf.now.variables trail.new.entries.items) }
     ensures unchanged { OnFalse result (trail.new.entries.items ≡ trail.old.entries.items) }
 {
-    match unassigned(trail, cnf.variables) {
+    match unassigned(trail, decided(cnf, steps, trail), cnf.variables) {
         Some(variable) => {
             trail.assign(Lit(2 * variable + 1), None);
             true

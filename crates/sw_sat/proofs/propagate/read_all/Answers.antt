@@ -1,4 +1,4 @@
-use Rattle.std.proofs.Common.{◌≡◌, ◌<◌, ◌≤◌, ◌+◌, inl, Some, subst, ⊎_elim, length, slice_get, arith, ℕ}
+use Rattle.std.proofs.Common.{◌≡◌, ◌<◌, inl, Some, subst, ⊎_elim, length, slice_get, arith, ℕ}
 use Rattle.std.proofs.lemmas.Bool.{cases_eq}
 use Rattle.std.proofs.lemmas.Option.{slice_get_within}
 use Rattle.sw_sat.specs.Trail.{all_clauses}

@@ -1,4 +1,4 @@
-use Rattle.std.proofs.Common.{◌≡◌, ◌<◌, ◌+◌, ◌∷◌, ◌++◌, [], ℕ, inl, sym, Some, subst, ⊎_elim, length, take, get_or, slice_get}
+use Rattle.std.proofs.Common.{◌≡◌, ℕ, inl, sym, Some, subst, ⊎_elim, length, take, get_or, slice_get}
 use Rattle.std.proofs.lemmas.List.{take_all, take_more}
 use Rattle.std.proofs.lemmas.List.Elements.{Contains-push_cases}
 use Rattle.std.specs.List.{Contains}

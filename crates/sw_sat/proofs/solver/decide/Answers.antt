@@ -1,7 +1,6 @@
 use Rattle.std.proofs.Common.{◌<◌, None, length, arith}
 use Rattle.sw_sat.specs.declared.trail.Entry.{Entry}
-use Rattle.sw_sat.specs.Progress.{negative}
-use Rattle.sw_sat.specs.Trail.{all_clauses}
+use Rattle.sw_sat.specs.Trail.{all_clauses, negative}
 use Rattle.sw_sat.proofs.Growth.{room_left, state_push}
 use Rattle.sw_sat.proofs.Quiet.{ready_push}
 use Rattle.sw_sat.proofs.Turning.{decision_follows}
