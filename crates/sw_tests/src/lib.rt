@@ -13,7 +13,6 @@ mod gates;
 #[cfg(test)]
 mod lines;
 #[cfg(test)]
-#[cfg(test)]
 mod protocols;
 #[cfg(test)]
 mod reading;
