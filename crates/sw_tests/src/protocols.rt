@@ -1,5 +1,4 @@
 //! Texts of protocols: what `print` writes of them.
-use crate::reading::repeated;
 use crate::running::{check_on, is_ended};
 use std::alloc::{AllocError, Global};
 use std::process::Abort;
@@ -185,7 +184,8 @@ fn texts_of_protocols_are_printed_or_refused(rt: HostRuntime) -> Result<(), Fail
         refuses(&rt, alloc, text, wanted)?;
     }
     for (front, part, count, back, wanted) in LONG.iter() {
-        let text = repeated(alloc, front, part, *count, back)?;
+        let many = part.repeat(alloc, *count as usize)?;
+        let text = format!(in alloc; "{front}{many}{back}")?;
         refuses(&rt, alloc, text.as_str(), wanted)?;
     }
     Ok(())

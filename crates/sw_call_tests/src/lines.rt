@@ -1,5 +1,4 @@
 //! Which command lines are which commands.
-use crate::reading::repeated;
 use std::alloc::{AllocError, Global};
 use std::process::Abort;
 use std::test::Fail;
@@ -162,10 +161,11 @@ fn lines_are_their_commands(rt: HostRuntime) -> Result<(), Fail> {
     }
     assert_eq!(rt; told(alloc, &[])?.as_str(), "usage");
     // a word has 4096 bytes at most
-    let within = repeated(alloc, "space;", "x", 4096, "")?;
-    let wanted = repeated(alloc, "space ", "x", 4096, "")?;
+    let longest = "x".repeat(alloc, 4096)?;
+    let within = format!(in alloc; "space;{longest}")?;
+    let wanted = format!(in alloc; "space {longest}")?;
     is_told(&rt, alloc, within.as_str(), wanted.as_str())?;
-    let over = repeated(alloc, "space;", "x", 4097, "")?;
+    let over = format!(in alloc; "space;{longest}x")?;
     is_told(&rt, alloc, over.as_str(), "usage")?;
     Ok(())
 }

@@ -3,7 +3,7 @@ ghost use Rattle.std.specs.Prelude.{◌≤◌, IfOk};
 ghost use Rattle.sw_logic.specs.Truth.{binds};
 
 use sqlite_items::Items;
-use std::alloc::{AllocError, Global};
+use std::alloc::Global;
 use std::test::Fail;
 use sw_logic::{Formula, Scope, Signature, Structure};
 use sw_models::read_structure;
@@ -43,20 +43,4 @@ pub fn sentence_of(
         Ok(formula) => Ok(formula),
         Err(_) => Err(Fail::from("a text of a formula is wanted")),
     }
-}
-
-/// A front, a part so many times, and a back.
-pub fn repeated(
-    alloc: Global,
-    front: &str,
-    part: &str,
-    count: u32,
-    back: &str,
-) -> Result<String, AllocError> {
-    let mut text = String::from_str(alloc, front)?;
-    for _ in 0..count {
-        text.push_str(part)?;
-    }
-    text.push_str(back)?;
-    Ok(text)
 }

@@ -1,5 +1,5 @@
 //! Texts of formulas: their canonical text, or their first fault and its place.
-use crate::reading::{protocol_of, repeated};
+use crate::reading::protocol_of;
 use sqlite_items::Items;
 use std::alloc::{AllocError, Global};
 use std::process::Abort;
@@ -213,7 +213,8 @@ fn texts_of_formulas_are_read_and_printed(rt: HostRuntime) -> Result<(), Fail> {
         is_told(&rt, alloc, &protocol.signature, &scope, text, wanted)?;
     }
     for (front, part, count, back, wanted) in LONG.iter() {
-        let text = repeated(alloc, front, part, *count, back)?;
+        let many = part.repeat(alloc, *count as usize)?;
+        let text = format!(in alloc; "{front}{many}{back}")?;
         is_told(
             &rt,
             alloc,
