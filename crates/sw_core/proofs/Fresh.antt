@@ -8,7 +8,7 @@ use Rattle.sw_filter.specs.declared.filter.Filter.{Filter}
 use Rattle.sw_filter.specs.Filters.{IsLive, Refutes}
 use Rattle.sw_core.specs.declared.record.Kept.{Kept}
 use Rattle.sw_core.specs.Machine.{Search, formula_in}
-use Rattle.sw_core.specs.Gathered.{Share, kept_of, log_after, IsKeptBy, IsShare, AreFresh, KeptAreFresh}
+use Rattle.sw_core.specs.Gathered.{Share, kept_of, filters_after, log_after, IsKeptBy, IsShareAmong, AreFresh, KeptAreFresh}
 
 module _ (m : Search) (log : List Formula) where
   abbrev Fresh : List Kept → List Kept → Type 0
@@ -35,19 +35,19 @@ module _ (m : Search) (log : List Formula) where
     subst (λ l. Fresh l ks) (sym (append_assoc before mine (k ∷ []))) (fresh_on w before (mine ++ k ∷ []) ks b a.1 f.1),
   )
 
-  shares_fresh : (fs : List Filter) (w : ℕ) (before : List Kept) (shares : List Share) → AreOf w before → ((i : ℕ) (share : Share) → slice_get shares i ≡ Some share → IsShare m fs log (w + i) share) → Fresh before (kept_of shares)
+  shares_fresh : (fs : List Filter) (w : ℕ) (before : List Kept) (shares : List Share) → AreOf w before → ((i : ℕ) (share : Share) → slice_get shares i ≡ Some share → IsShareAmong m fs log (w + i) share) → Fresh before (kept_of shares)
   shares_fresh fs w before [] b h = tt
   shares_fresh fs w before (s ∷ shares) b h =
       let here : w + 0 ≡ w = omega arith in
-      let share : IsShare m fs log w s = subst (λ n. IsShare m fs log n s) here (h zero s refl) in
+      let share : IsShareAmong m fs log w s = subst (λ n. IsShareAmong m fs log n s) here (h zero s refl) in
       let mine : Fresh before s.kept = subst (λ l. Fresh l s.kept) (append-nil before) (fresh_on w before [] s.kept b share.kept share.fresh) in
       let earlier : AreOf (w + 1) (before ++ s.kept) =
       each-append (λ (e : Kept). e.worker < w + 1) before s.kept (each-weaker (λ (e : Kept). e.worker < w) (λ (e : Kept). e.worker < w + 1) (λ e lt. omega (arith, lt)) before b)
       (each-weaker (IsKeptBy m w log) (λ (e : Kept). e.worker < w + 1) (λ e a. omega (arith, a.by_worker)) s.kept share.kept) in
       fresh_append before s.kept (kept_of shares) mine
-      (shares_fresh fs (w + 1) (before ++ s.kept) shares earlier (λ i x at. let next : w + suc i ≡ (w + 1) + i = omega arith in subst (λ n. IsShare m fs log n x) next (h (suc i) x at)))
+      (shares_fresh fs (w + 1) (before ++ s.kept) shares earlier (λ i x at. let next : w + suc i ≡ (w + 1) + i = omega arith in subst (λ n. IsShareAmong m fs log n x) next (h (suc i) x at)))
 
 pub kept_are_fresh : KeptAreFresh
 kept_are_fresh m log fs o h =
-    shares_fresh m (log_after m log o) fs 0 [] o.shares tt
-    (λ i share at. let same : i ≡ 0 + i = omega arith in subst (λ n. IsShare m fs (log_after m log o) n share) same (h.shares i share at))
+    shares_fresh m (log_after m log o) (filters_after fs o) 0 [] o.shares tt
+    (λ i share at. let same : i ≡ 0 + i = omega arith in subst (λ n. IsShareAmong m (filters_after fs o) (log_after m log o) n share) same (h.shares i share at))

@@ -15,6 +15,6 @@ pub mod Takes
 pub mod Spells
 pub mod Again
 pub mod Sorting
-pub mod Quiet
 pub mod Fresh
+pub mod Merging
 pub mod Narrow

@@ -14,7 +14,7 @@ use Rattle.sw_core.specs.declared.record.Settled.{Settled}
 use Rattle.sw_core.specs.declared.steps.Step.TheVariants.{Begin, Close}
 use Rattle.sw_core.specs.Machine.{Search, Board, Part, IsDone, parts_in, start, after}
 use Rattle.sw_core.specs.Records.{times, draws_of, entry_steps, publish_step, settle_steps, round_steps, rounds_steps}
-use Rattle.sw_core.specs.Gathered.{Share, Outcome, filters_of, formulas_of, drawn_of, kept_of, log_after, filters_after, IsShare, IsOutcome, once_below, settled_of, round_of, rounds_of, IsLiveBy, AreOutcomes, GatheredIsFounded}
+use Rattle.sw_core.specs.Gathered.{Share, Outcome, filters_of, formulas_of, drawn_of, kept_of, log_after, filters_after, IsShareAmong, IsOutcome, once_below, settled_of, round_of, rounds_of, IsLiveBy, AreOutcomes, GatheredIsFounded}
 use Rattle.sw_core.proofs.Lists.{each_got}
 use Rattle.sw_core.proofs.Leads.{Leads, leads_none, leads_step, leads_append, At, at_weaker, entries_lead, publishes_lead}
 use Rattle.sw_core.proofs.Drawing.{times_over, times-over, owner, times_in, owner_is, AreHanded, AtDrawn, draws_lead}
@@ -34,7 +34,7 @@ got_map f [] k x e = absurd (none-some x e)
 got_map f (y ∷ ys) zero x e = ap (λ z. Some (f z)) (same_Some y x e)
 got_map f (y ∷ ys) (suc k) x e = got_map f ys k x e
 
-module _ (m : Search) (g : List Formula) (fs : List Filter) (o : Outcome) (h : IsOutcome m g fs o) (Q : Settled → Type 0) (facts : AllByRecursion Q (settled_of (length fs) 0 o.shares)) where
+module _ (m : Search) (g : List Formula) (fs : List Filter) (o : Outcome) (h : IsOutcome m g fs o) (Q : Settled → Type 0) (facts : AllByRecursion Q (settled_of o.shares)) where
   abbrev own : ℕ → ℕ
   own = owner (drawn_of o.shares)
 
@@ -42,7 +42,7 @@ module _ (m : Search) (g : List Formula) (fs : List Filter) (o : Outcome) (h : I
   total = length (parts_in m)
 
   abbrev settled : List Settled
-  settled = settled_of (length fs) 0 o.shares
+  settled = settled_of o.shares
 
   once : (x : ℕ) → times_over x (drawn_of o.shares) ≡ once_below x total
   once x = sym (times-over x (drawn_of o.shares)) ∙ (ap (times x) (flat_map-map o.shares) ∙ h.once x)
@@ -53,10 +53,10 @@ module _ (m : Search) (g : List Formula) (fs : List Filter) (o : Outcome) (h : I
   all : 0 + length o.shares ≡ m.workers
   all = omega (arith, h.workers)
 
-  shares : AreShares m (log_after m g o) fs own 0 o.shares
-  shares j share at = let e : j ≡ 0 + j = omega arith in subst (λ i. IsShare m fs (log_after m g o) i share) e (h.shares j share at)
+  shares : AreShares m (log_after m g o) (filters_after fs o) own 0 o.shares
+  shares j share at = let e : j ≡ 0 + j = omega arith in subst (λ i. IsShareAmong m (filters_after fs o) (log_after m g o) i share) e (h.shares j share at)
 
-  owns : Owns m (log_after m g o) fs own 0 o.shares
+  owns : Owns m (log_after m g o) (filters_after fs o) own 0 o.shares
   owns j share at x here = elim (cases_lt x total) [
     | inl lt ↦
         let one : times_over x (drawn_of o.shares) ≡ 1 = once x ∙ cond-true (nat_lt x total) 1 0 (lt-ltb x total lt) in
@@ -70,12 +70,12 @@ module _ (m : Search) (g : List Formula) (fs : List Filter) (o : Outcome) (h : I
 
   settles : AllByRecursion (Settles m (log_after m g o) (filters_after fs o) own Q) settled
   settles =
-      each-weaker (λ x. Fits m (log_after m g o) fs own (filters_after fs o) x × Q x) (Settles m (log_after m g o) (filters_after fs o) own Q)
+      each-weaker (λ x. Fits m (log_after m g o) (filters_after fs o) own x × Q x) (Settles m (log_after m g o) (filters_after fs o) own Q)
       (λ x a. record { within = a.0.within; worker = a.0.worker; owned = a.0.owned; under = a.0.under; places = a.0.places; good = a.0.good; fact = a.1 }) settled
-      (each-both (Fits m (log_after m g o) fs own (filters_after fs o)) Q settled (shares_settle m (log_after m g o) fs own [] 0 o.shares all shares owns) facts)
+      (each-both (Fits m (log_after m g o) (filters_after fs o) own) Q settled (shares_settle m (log_after m g o) (filters_after fs o) own 0 o.shares all shares owns) facts)
 
   parts_are : parts_of settled ≡ flat_map (λ (s : Share). s.drawn) o.shares
-  parts_are = settled_parts (length fs) 0 o.shares (λ j s at. (h.shares j s at).in_order)
+  parts_are = settled_parts o.shares (λ j s at. (h.shares j s at).in_order)
 
   wait : (ps : List Part) → length ps ≡ total → AreHanded own total ps → AreWaiting own Q settled ps
   wait ps e handed k part at =
@@ -99,7 +99,7 @@ module _ (m : Search) (g : List Formula) (fs : List Filter) (o : Outcome) (h : I
   abbrev Ended : Board → Type 0
   Ended = At m (log_after m g o) (filters_after fs o) (AreWaiting own Q [])
 
-  pub round_leads : (s : Board) (log : ℕ) → At m g fs Free s → Leads m s (round_steps o.entries (round_of (length fs) log o)) Ended
+  pub round_leads : (s : Board) (log : ℕ) → At m g fs Free s → Leads m s (round_steps o.entries (round_of log o)) Ended
   round_leads s log a =
       let draws = draws_of (drawn_of o.shares) in
       let looks = flat_map entry_steps o.entries in
@@ -112,7 +112,7 @@ module _ (m : Search) (g : List Formula) (fs : List Filter) (o : Outcome) (h : I
       (λ t b. leads_append m (At m (log_after m g o) fs (AreHanded own total)) Ended looks (publishes ++ ends) t
       (entries_lead m (AreHanded own total) g fs o.entries t b h.entries)
       (λ u c. leads_append m (At m (log_after m g o) (filters_after fs o) (AreHanded own total)) Ended publishes ends u
-      (publishes_lead m (AreHanded own total) (log_after m g o) fs (kept_of o.shares) u c (shares_publish m (log_after m g o) fs 0 o.shares all shares))
+      (publishes_lead m (AreHanded own total) (log_after m g o) fs (kept_of o.shares) u c (shares_publish m (log_after m g o) (filters_after fs o) 0 o.shares all shares))
       (λ v d. settles_lead m (log_after m g o) (filters_after fs o) own Q settled v settles
       (at_weaker m (log_after m g o) (filters_after fs o) (AreHanded own total) (AreWaiting own Q settled) v (wait v.parts) d)))))
 
@@ -153,14 +153,14 @@ abbrev entries_of : List Outcome → List Entry
 entries_of os = flat_map (λ (o : Outcome). o.entries) os
 
 -- one round and what comes after it
-first_leads : (m : Search) (g : List Formula) (fs : List Filter) (o : Outcome) (os : List Outcome) (Q : Settled → Type 0) (s : Board) → At m g fs Free s → IsOutcome m g fs o → AllByRecursion Q (settled_of (length fs) 0 o.shares)
+first_leads : (m : Search) (g : List Formula) (fs : List Filter) (o : Outcome) (os : List Outcome) (Q : Settled → Type 0) (s : Board) → At m g fs Free s → IsOutcome m g fs o → AllByRecursion Q (settled_of o.shares)
     → ((t : Board) → At m (log_after m g o) (filters_after fs o) (AreWaiting (owner (drawn_of o.shares)) Q []) t
-    → Leads m t (rounds_steps (length g + length o.entries) (entries_of os) (rounds_of (length fs + length (kept_of o.shares)) (length g + length o.entries) os) ++ Close ∷ []) Any)
-    → Leads m s (rounds_steps (length g) (entries_of (o ∷ os)) (rounds_of (length fs) (length g) (o ∷ os)) ++ Close ∷ []) Any
+    → Leads m t (rounds_steps (length g + length o.entries) (entries_of os) (rounds_of (length g + length o.entries) os) ++ Close ∷ []) Any)
+    → Leads m s (rounds_steps (length g) (entries_of (o ∷ os)) (rounds_of (length g) (o ∷ os)) ++ Close ∷ []) Any
 first_leads m g fs o os Q s a h facts f =
     let at = length g + length o.entries in
-    let later = rounds_of (length fs + length (kept_of o.shares)) at os in
-    let round = round_of (length fs) at o in
+    let later = rounds_of at os in
+    let round = round_of at o in
     let now : Leads m s (round_steps o.entries round ++ (rounds_steps at (entries_of os) later ++ Close ∷ [])) Any =
     leads_append m (At m (log_after m g o) (filters_after fs o) (AreWaiting (owner (drawn_of o.shares)) Q [])) Any (round_steps o.entries round) (rounds_steps at (entries_of os) later ++ Close ∷ []) s
     (round_leads m g fs o h Q facts s at a) f in
@@ -173,19 +173,17 @@ first_leads m g fs o os Q s a h facts f =
     cut
 
 rounds_lead : (m : Search) (g : List Formula) (fs : List Filter) (os : List Outcome) (s : Board) → At m g fs Free s → AreOutcomes m g fs os
-    → Leads m s (rounds_steps (length g) (entries_of os) (rounds_of (length fs) (length g) os) ++ Close ∷ []) Any
+    → Leads m s (rounds_steps (length g) (entries_of os) (rounds_of (length g) os) ++ Close ∷ []) Any
 rounds_lead m g fs [] s a h = absurd h
 rounds_lead m g fs (o ∷ []) s a h =
     first_leads m g fs o [] (IsLiveBy m (log_after m g o) (filters_after fs o)) s a h.0 h.1
     (λ t b. close_leads m (log_after m g o) (filters_after fs o) (owner (drawn_of o.shares)) t b)
 rounds_lead m g fs (o ∷ p ∷ os) s a h =
     let log_size : length (log_after m g o) ≡ length g + length o.entries = length-append g (formulas_of m o.entries) ∙ ap (λ n. length g + n) (length-map o.entries _) in
-    let filter_size : length (filters_after fs o) ≡ length fs + length (kept_of o.shares) = length-append fs (filters_of (kept_of o.shares)) ∙ ap (λ n. length fs + n) (length-map (kept_of o.shares) _) in
-    first_leads m g fs o (p ∷ os) (λ _. Unit {0}) s a h.0 (each-any (λ _. Unit {0}) (λ x. tt) (settled_of (length fs) 0 o.shares))
+    first_leads m g fs o (p ∷ os) (λ _. Unit {0}) s a h.0 (each-any (λ _. Unit {0}) (λ x. tt) (settled_of o.shares))
     (λ t b.
-    subst (λ n. Leads m t (rounds_steps n (entries_of (p ∷ os)) (rounds_of (length fs + length (kept_of o.shares)) n (p ∷ os)) ++ Close ∷ []) Any) log_size
-    (subst (λ n. Leads m t (rounds_steps (length (log_after m g o)) (entries_of (p ∷ os)) (rounds_of n (length (log_after m g o)) (p ∷ os)) ++ Close ∷ []) Any) filter_size
-    (rounds_lead m (log_after m g o) (filters_after fs o) (p ∷ os) t
+    subst (λ n. Leads m t (rounds_steps n (entries_of (p ∷ os)) (rounds_of n (p ∷ os)) ++ Close ∷ []) Any) log_size
+    ((rounds_lead m (log_after m g o) (filters_after fs o) (p ∷ os) t
     (at_weaker m (log_after m g o) (filters_after fs o) (AreWaiting (owner (drawn_of o.shares)) (λ _. Unit {0}) []) Free t (λ e w k part at. free_of (owner (drawn_of o.shares)) (λ _. Unit {0}) k part (w k part at)) b) h.1)))
 
 none_held : (parts : List (List (List ℕ))) → Free (map (λ _. let p : Part = record { holders = []; last = None } in p) parts)

@@ -1,6 +1,6 @@
 -- What workers that were joined hand back of each round, and the record that is gathered of it.
-use Rattle.std.specs.Prelude.{◌≡◌, ℕ, ◌+◌, ◌<◌, ◌≤◌, nat_lt, List, [], ◌∷◌, ◌++◌, map, length, take, Some, slice_get, if◌then◌else◌}
-use Rattle.std.specs.List.{AllByRecursion, flat_map}
+use Rattle.std.specs.Prelude.{◌≡◌, ℕ, ◌+◌, ◌<◌, ◌≤◌, nat_lt, Bool, true, false, List, [], ◌∷◌, ◌++◌, map, length, take, Some, Contains, slice_get, if◌then◌else◌}
+use Rattle.std.specs.List.{AllByRecursion, AllZip, flat_map}
 use Rattle.sw_logic.specs.declared.syntax.Formula.{Formula}
 use Rattle.sw_filter.specs.declared.filter.Filter.{Filter}
 use Rattle.sw_filter.specs.Filters.{IsLive, Refutes}
@@ -13,7 +13,7 @@ use Rattle.sw_core.specs.Machine.{Search, AreBelow, filters_at, formula_in, part
 use Rattle.sw_core.specs.Founded.{AreFounded, Gains, IsSettledWell}
 use Rattle.sw_core.specs.Records.{times, steps_of}
 
--- what one worker hands back of a round: the numbers that it drew, the filters that it kept, and its settlements, whose places are in the filters before the round followed by its own
+-- what one worker hands back of a round: the numbers that it drew, the filters that it kept, and its settlements
 pub record Share : Type 0 where
   pub drawn : List ℕ
   pub kept : List Kept
@@ -66,12 +66,16 @@ abbrev pub AreFresh : Search → List Formula → List Kept → List Kept → Ty
 AreFresh m log before [] = Unit {0}
 AreFresh m log before (k ∷ ks) = IsFresh m log before k × AreFresh m log (before ++ k ∷ []) ks
 
--- what a worker promises of its share: each drawn part is settled, in the order of the draws, and each filter kept is fresh
-pub record IsShare (m : Search) (filters : List Filter) (log : List Formula) (worker : ℕ) (share : Share) : Type 0 where
+-- what is promised of a worker's share, whose settlements have places in these filters: each drawn part is settled, in the order of the draws, and each filter kept is fresh
+pub record IsShareAmong (m : Search) (filters : List Filter) (log : List Formula) (worker : ℕ) (share : Share) : Type 0 where
   pub in_order : map (λ (x : Settled). x.part) share.settled ≡ share.drawn
-  pub settled : AllByRecursion (IsSettledBy m worker log (filters ++ filters_of share.kept)) share.settled
+  pub settled : AllByRecursion (IsSettledBy m worker log filters) share.settled
   pub kept : AllByRecursion (IsKeptBy m worker log) share.kept
   pub fresh : AreFresh m log [] share.kept
+
+-- what a worker promises of its share: the places are in the filters before the round followed by its own
+abbrev pub IsShare : Search → List Filter → List Formula → ℕ → Share → Type 0
+IsShare m filters log worker share = IsShareAmong m (filters ++ filters_of share.kept) log worker share
 
 -- each entry is of a worker, and gained under those before it
 abbrev pub AreGained : Search → List Formula → List Entry → Type 0
@@ -82,37 +86,27 @@ AreGained m log (e ∷ es) = (e.worker < m.workers) × Gains m log (formula_in m
 abbrev pub once_below : ℕ → ℕ → ℕ
 once_below x n = if nat_lt x n then 1 else 0
 
--- a round that is whole: each part is drawn once over all workers, the entries are gained, and each share is as its worker promises
+-- a round that is whole: each part is drawn once over all workers, the entries are gained, and each share is as promised, with places among all filters that there are after the round
 pub record IsOutcome (m : Search) (log : List Formula) (filters : List Filter) (o : Outcome) : Type 0 where
   pub workers : length o.shares ≡ m.workers
   pub once : (x : ℕ) → times x (flat_map (λ (s : Share). s.drawn) o.shares) ≡ once_below x (length (parts_in m))
   pub entries : AreGained m log o.entries
-  pub shares : (i : ℕ) (share : Share) → slice_get o.shares i ≡ Some share → IsShare m filters (log_after m log o) i share
+  pub shares : (i : ℕ) (share : Share) → slice_get o.shares i ≡ Some share → IsShareAmong m (filters_after filters o) (log_after m log o) i share
 
--- a place among the filters before the round and one's own, in the list of all filters
-abbrev pub shifted : ℕ → ℕ → ℕ → ℕ
-shifted count by k = if nat_lt k count then k else k + by
+abbrev pub settled_of : List Share → List Settled
+settled_of shares = flat_map (λ (s : Share). s.settled) shares
 
-abbrev pub moved : ℕ → ℕ → Settled → Settled
-moved count by x = record x { by = map (shifted count by) x.by }
+-- the record's round, with the log's length at its end
+abbrev pub round_of : ℕ → Outcome → Round
+round_of log o = record { drawn = drawn_of o.shares; kept = kept_of o.shares; settled = settled_of o.shares; log = log }
 
--- the settlements of the shares, with places in the list of all filters
-abbrev pub settled_of : ℕ → ℕ → List Share → List Settled
-settled_of count by [] = []
-settled_of count by (s ∷ ss) = map (moved count by) s.settled ++ settled_of count (by + length s.kept) ss
-
--- the record's round, after so many filters and with the log's length at its end
-abbrev pub round_of : ℕ → ℕ → Outcome → Round
-round_of count log o = record { drawn = drawn_of o.shares; kept = kept_of o.shares; settled = settled_of count 0 o.shares; log = log }
-
-abbrev pub rounds_of : ℕ → ℕ → List Outcome → List Round
-rounds_of count log [] = []
-rounds_of count log (o ∷ os) =
-    round_of count (log + length o.entries) o ∷ rounds_of (count + length (kept_of o.shares)) (log + length o.entries) os
+abbrev pub rounds_of : ℕ → List Outcome → List Round
+rounds_of log [] = []
+rounds_of log (o ∷ os) = round_of (log + length o.entries) o ∷ rounds_of (log + length o.entries) os
 
 -- the record of the rounds, from an opening list of this length
 abbrev pub record_of : ℕ → List Outcome → Record
-record_of opening os = record { entries = flat_map (λ (o : Outcome). o.entries) os; rounds = rounds_of 0 opening os }
+record_of opening os = record { entries = flat_map (λ (o : Outcome). o.entries) os; rounds = rounds_of opening os }
 
 -- the filters of the settlement are all live
 abbrev pub IsLiveBy : Search → List Formula → List Filter → Settled → Type 0
@@ -122,13 +116,46 @@ IsLiveBy m log filters x = AllByRecursion (IsLive m.protocol m.mode log) (filter
 abbrev pub AreOutcomes : Search → List Formula → List Filter → List Outcome → Type 0
 AreOutcomes m log filters [] = ⊥
 AreOutcomes m log filters (o ∷ []) =
-    IsOutcome m log filters o × AllByRecursion (IsLiveBy m (log_after m log o) (filters_after filters o)) (settled_of (length filters) 0 o.shares)
+    IsOutcome m log filters o × AllByRecursion (IsLiveBy m (log_after m log o) (filters_after filters o)) (settled_of o.shares)
 AreOutcomes m log filters (o ∷ p ∷ os) = IsOutcome m log filters o × AreOutcomes m (log_after m log o) (filters_after filters o) (p ∷ os)
 
 -- the record that is gathered of such rounds has founded steps
 abbrev pub GatheredIsFounded : Type 0
 GatheredIsFounded = (m : Search) (opening : List Formula) (os : List Outcome) → AreOutcomes m opening [] os →
     AreFounded m (start m opening) (steps_of (record_of (length opening) os) (length opening))
+
+-- the filters that are chosen
+abbrev pub chosen : {X : Type 0} → List Bool → List X → List X
+chosen [] xs = []
+chosen (b ∷ bs) [] = []
+chosen (true ∷ bs) (x ∷ xs) = x ∷ chosen bs xs
+chosen (false ∷ bs) (x ∷ xs) = chosen bs xs
+
+-- the one settlement names in its list of filters those that the other names in its own, and is else the same
+pub record NamesSame (from to : List Filter) (x y : Settled) : Type 0 where
+  pub part : y.part ≡ x.part
+  pub worker : y.worker ≡ x.worker
+  pub under : y.under ≡ x.under
+  pub places : AreBelow (length to) y.by
+  pub all : AllByRecursion (Contains (filters_at to y.by)) (filters_at from x.by)
+  pub only : AllByRecursion (Contains (filters_at from x.by)) (filters_at to y.by)
+
+-- a share with some of its filters kept, whose settlements name the same filters as before
+pub record IsMerged (from to : List Filter) (share merged : Share) : Type 0 where
+  pub drawn : merged.drawn ≡ share.drawn
+  pub marks : List Bool
+  pub kept : merged.kept ≡ chosen marks share.kept
+  pub settled : AllZip (NamesSame from to) share.settled merged.settled
+
+-- a share that names its filters in another list is as promised there
+abbrev pub MergedStays : Type 0
+MergedStays = (m : Search) (from to : List Filter) (log : List Formula) (worker : ℕ) (share merged : Share) →
+    IsMerged from to share merged → IsShareAmong m from log worker share → IsShareAmong m to log worker merged
+
+-- the filters that it names are live where they were
+abbrev pub MergedLive : Type 0
+MergedLive = (m : Search) (from to : List Filter) (log : List Formula) (share merged : Share) →
+    IsMerged from to share merged → AllByRecursion (IsLiveBy m log from) share.settled → AllByRecursion (IsLiveBy m log to) merged.settled
 
 -- what a worker promises under the list that it has seen holds under the log that the list begins
 abbrev pub ShareStays : Type 0
@@ -156,8 +183,6 @@ pub record IsTimely (m : Search) (from : ℕ) (log : List Formula) (filters : Li
   pub places : AreBelow (length filters) x.by
   pub live : AllByRecursion (IsLive m.protocol m.mode (take x.under log)) (filters_at filters x.by)
 
--- a round in which nothing is appended leaves only live settlements, so no other round comes after it
-abbrev pub QuietRoundCloses : Type 0
-QuietRoundCloses = (m : Search) (log : List Formula) (filters : List Filter) (shares : List Share) →
-    ((i : ℕ) (share : Share) → slice_get shares i ≡ Some share → AllByRecursion (IsTimely m (length log) log (filters ++ filters_of share.kept)) share.settled) →
-    AllByRecursion (IsLiveBy m log (filters ++ filters_of (kept_of shares))) (settled_of (length filters) 0 shares)
+-- a settlement under a whole list, whose filters are live under it, leaves only live filters, so no other round comes after it
+abbrev pub TimelyIsLive : Type 0
+TimelyIsLive = (m : Search) (log : List Formula) (filters : List Filter) (x : Settled) → IsTimely m (length log) log filters x → IsLiveBy m log filters x

@@ -61,6 +61,7 @@ pub fn copy_filter(alloc: Global, filter: &Filter) -> Result<Filter, AllocError>
     }
 }
 
+/// The same kept filter.
 pub fn copy_kept(alloc: Global, kept: &Kept) -> Result<Kept, AllocError>
     ensures { IfOk result (λ k. k ≡ kept.now) }
 {

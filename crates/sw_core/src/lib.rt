@@ -13,7 +13,7 @@ mod replaying;
 mod state;
 pub mod steps;
 
-pub use copy::copy_filter;
+pub use copy::{copy_filter, copy_kept};
 pub use part::{Made, Part};
 pub use record::{Entry, Kept, Record, Round, Settled};
 pub use replaying::{is_record, replay, steps_of};
