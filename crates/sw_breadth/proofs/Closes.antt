@@ -21,14 +21,16 @@ use Rattle.sw_filter.specs.Filters.{IsLive}
 use Rattle.sw_filter.specs.Good.{Good}
 use Rattle.sw_filter.proofs.Good.{good_is_not_missed, good_stays}
 use Rattle.sw_log.specs.declared.entry.Entry.{Entry}
+use Rattle.sw_pool.specs.declared.pool.Pool.{Pool}
+use Rattle.sw_pool.specs.declared.pool.Seen.{Seen}
+use Rattle.sw_pool.specs.Pools.{filter_of}
 use Rattle.sw_core.specs.declared.record.Kept.{Kept}
 use Rattle.sw_core.specs.declared.record.Round.{Round as Noted}
 use Rattle.sw_core.specs.declared.record.Settled.{Settled}
 use Rattle.sw_core.specs.Machine.{Search, AreBelow, filters_at, formula_in, parts_in}
 use Rattle.sw_core.specs.Records.{times}
-use Rattle.sw_core.specs.Gathered.{IsLiveBy, IsSettledBy, IsShare, Share, filters_of, formulas_of, kept_of, moved, once_below, settled_of}
+use Rattle.sw_core.specs.Gathered.{IsLiveBy, IsSettledBy, IsShare, Share, filters_of, formulas_of, once_below}
 use Rattle.sw_core.proofs.Lists.{each_got}
-use Rattle.sw_core.proofs.Shares.{filters_at-shifted}
 use Rattle.sw_walk.specs.Parts.{classes_of}
 use Rattle.sw_hand.specs.declared.hand.Handed.{Handed}
 use Rattle.sw_hand.specs.Hands.{search_of, share_of}
@@ -72,26 +74,18 @@ module _ (p : Protocol) (t : Template) (n : ℕ) where
   List_of log = classes_of (bodies_of log)
 
   module _ (log : List Entry) (fs : List Filter) (h : Handed) (share : IsShare M fs (formulas_of M log) 0 (share_of h))
-      (live : AllByRecursion (IsLiveBy M (formulas_of M log) (fs ++ filters_of (kept_of (share_of h ∷ [])))) (settled_of (length fs) 0 (share_of h ∷ []))) where
+      (live : AllByRecursion (IsLiveBy M (formulas_of M log) (fs ++ filters_of h.kept)) h.settled) where
     abbrev All_of : List Filter
     All_of = fs ++ filters_of h.kept
 
     abbrev LiveHere : Settled → Type 0
     LiveHere x = AllByRecursion (IsLive p Breadth (formulas_of M log)) (filters_at All_of x.by)
 
-    live_here : (x : Settled) → IsSettledBy M 0 (formulas_of M log) All_of x → IsLiveBy M (formulas_of M log) (fs ++ filters_of (h.kept ++ [])) (moved (length fs) 0 x) → LiveHere x
-    live_here x s l =
-        let same : filters_of (h.kept ++ []) ≡ filters_of h.kept ++ [] = map-append (λ (k : Kept). k.filter) h.kept [] in
-        subst (AllByRecursion (IsLive p Breadth (formulas_of M log))) (filters_at-shifted fs [] (filters_of h.kept) [] x.by s.places)
-        (subst (λ ys. AllByRecursion (IsLive p Breadth (formulas_of M log)) (filters_at (fs ++ ys) (moved (length fs) 0 x).by)) same l)
-
     abbrev Both : Settled → Type 0
-    Both x = IsSettledBy M 0 (formulas_of M log) All_of x × IsLiveBy M (formulas_of M log) (fs ++ filters_of (h.kept ++ [])) (moved (length fs) 0 x)
+    Both x = IsSettledBy M 0 (formulas_of M log) All_of x × LiveHere x
 
     both : AllByRecursion Both h.settled
-    both = each-both (IsSettledBy M 0 (formulas_of M log) All_of) (λ x. IsLiveBy M (formulas_of M log) (fs ++ filters_of (h.kept ++ [])) (moved (length fs) 0 x)) h.settled share.settled
-        (each-unmap (IsLiveBy M (formulas_of M log) (fs ++ filters_of (h.kept ++ []))) (moved (length fs) 0) h.settled
-        (each-front (IsLiveBy M (formulas_of M log) (fs ++ filters_of (h.kept ++ []))) (map (moved (length fs) 0) h.settled) [] live))
+    both = each-both (IsSettledBy M 0 (formulas_of M log) All_of) LiveHere h.settled share.settled live
 
     -- a class that is good by live filters does not add
     adds_not : (x : Settled) → LiveHere x → (class : List ℕ) → Good p Breadth (take x.under (formulas_of M log)) (formula_of p.signature t class) (filters_at All_of x.by) → Adds p t (List_of log) class → ⊥
@@ -116,18 +110,19 @@ module _ (p : Protocol) (t : Template) (n : ℕ) where
         let here : unwrap_or (slice_get (parts p.signature t) x.0.part) [] ≡ part = ap (λ i. unwrap_or (slice_get (parts p.signature t) i) []) x.1 ∙ ap (λ o. unwrap_or o []) at in
         let good = subst (AllByRecursion (λ class. Good p Breadth (take x.0.under (formulas_of M log)) (formula_of p.signature t class) (filters_at All_of x.0.by))) here x.2.0.good in
         each-weaker (λ class. Good p Breadth (take x.0.under (formulas_of M log)) (formula_of p.signature t class) (filters_at All_of x.0.by)) (λ class. Adds p t (List_of log) class → ⊥)
-        (λ class g. adds_not x.0 (live_here x.0 x.2.0 x.2.1) class g) part good)
+        (λ class g. adds_not x.0 x.2.1 class g) part good)
 
   -- the last round leads to a list at which the plain pass rests
-  last_rests : (before : ℕ) (entries log : List Entry) (rounds : List Noted) (hs : List Handed) → n ≡ 1 → HaveRun M entries rounds before → IsWholeRound M before entries log hs → IsLiveRound M before log hs → Round p t (List_of log) (List_of log)
-  last_rests before entries log rounds hs alone run whole live =
+  last_rests : (pool : Pool) (before : ℕ) (entries log : List Entry) (rounds : List Noted) (tokens : List Seen) (hs : List Handed) → n ≡ 1 → before ≡ length tokens → HaveRun M pool entries rounds tokens
+      → IsWholeRound M pool before entries log hs → IsLiveRound M before log hs → Round p t (List_of log) (List_of log)
+  last_rests pool before entries log rounds tokens hs alone size run whole live =
       let fs : List Filter = filters_of (kept_by run.outcomes) in
-      let count : length fs ≡ before = length-map (kept_by run.outcomes) _ ∙ sym run.filters_are in
+      let count : length fs ≡ before = ap length run.filters_are ∙ (length-map tokens filter_of ∙ sym size) in
       let h = single hs (whole.workers ∙ alone) in
       let at : slice_get hs 0 ≡ Some h.0 = ap (λ (l : List Handed). slice_get l 0) h.1 in
       rests p t (List_of log)
       (none_add log fs h.0 ((whole.shares 0 h.0 at).share fs count)
-      (subst (λ (l : List Handed). AllByRecursion (IsLiveBy M (formulas_of M log) (fs ++ filters_of (kept_of (map share_of l)))) (settled_of (length fs) 0 (map share_of l))) h.1 (live fs count))
+      (subst (AllByRecursion (λ (x : Handed). AllByRecursion (IsLiveBy M (formulas_of M log) (fs ++ filters_of x.kept)) x.settled)) h.1 (live fs count)).0
       (λ k. ap (λ (l : List Handed). times k (flat_map (λ (x : Handed). x.drawn) l)) (sym h.1) ∙ whole.once k))
 
   list_long : (es : List Entry) → length (List_of es) ≡ length es
@@ -148,10 +143,11 @@ module _ (p : Protocol) (t : Template) (n : ℕ) where
   no_more entries log [] e le = e ∙ append-nil entries
   no_more entries log (x ∷ new) e le = let long : length log ≡ length entries + length (x ∷ new) = ap length e ∙ length-append entries (x ∷ new) in absurd (omega arith)
 
-  pub plain_last : (before : ℕ) (entries log : List Entry) (rounds : List Noted) (hs : List Handed) → HaveRun M entries rounds before → IsWholeRound M before entries log hs → IsLiveRound M before log hs
+  pub plain_last : (pool : Pool) (before : ℕ) (entries log : List Entry) (rounds : List Noted) (tokens : List Seen) (hs : List Handed) → before ≡ length tokens → HaveRun M pool entries rounds tokens
+      → IsWholeRound M pool before entries log hs → IsLiveRound M before log hs
       → StaysPlain M entries → IsPlainRound M entries log → n ≡ 1 → PlainList p t (List_of log)
-  plain_last before entries log rounds hs run whole live stays plain alone =
-      let rest : Round p t (List_of log) (List_of log) = last_rests before entries log rounds hs alone run whole live in
+  plain_last pool before entries log rounds tokens hs size run whole live stays plain alone =
+      let rest : Round p t (List_of log) (List_of log) = last_rests pool before entries log rounds tokens hs alone size run whole live in
       elim (cases_lt (length entries) (length log)) [
         | inl lt ↦ (plain_more entries log lt stays plain alone).ahead (List_of log) (Until.rests rest)
         | inr le ↦

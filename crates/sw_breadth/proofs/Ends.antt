@@ -26,6 +26,7 @@ use Rattle.sw_core.specs.Gathered.{AreGained, formulas_of, once_below}
 use Rattle.sw_core.proofs.Lists.{each_got}
 use Rattle.sw_core.proofs.Shares.{each_gained}
 use Rattle.sw_walk.specs.Parts.{all_classes, IsClass}
+use Rattle.sw_pool.specs.declared.pool.Pool.{Pool}
 use Rattle.sw_hand.specs.declared.hand.Handed.{Handed}
 use Rattle.sw_work.specs.declared.errors.BreadthError.{BreadthError}
 use Rattle.sw_work.specs.Works.{IsCause, is_listed, same_class, entry_formula, seen_formulas}
@@ -135,10 +136,10 @@ module _ (m : Search) where
         }
 
   -- a whole round
-  pub whole_round : (budget : Option ℕ) (before n : ℕ) (entries log : List Entry) (w : Places) (hs : List Handed) → 1 ≤ m.workers → Placed entries → AllByRecursion Listed entries
-      → IsClosable m budget entries before w (came.Whole hs) → IsEachBelow n w.claim.view.drawn → (1 ≤ w.claim.view.ends → n ≡ w.claim.view.parts)
-      → Placed log → HoldsEach w.log.view.own log → log ≡ w.log.view.seen → IsWholeRound m before entries log hs
-  whole_round budget before n entries log w hs least placed listed h below whole placed_log holds is =
+  pub whole_round : (pool : Pool) (budget : Option ℕ) (before n : ℕ) (entries log : List Entry) (w : Places) (hs : List Handed) → 1 ≤ m.workers → Placed entries → AllByRecursion Listed entries
+      → IsClosable m pool budget entries before w (came.Whole hs) → IsEachBelow n w.claim.view.drawn → (1 ≤ w.claim.view.ends → n ≡ w.claim.view.parts)
+      → Placed log → HoldsEach w.log.view.own log → log ≡ w.log.view.seen → IsWholeRound m pool before entries log hs
+  whole_round pool budget before n entries log w hs least placed listed h below whole placed_log holds is =
       let v = w.log.view in
       let end : IsEnd entries v.seen = ended entries v placed h.owner (subst (HoldsEach v.own) is holds) listed in
       let all : n ≡ length (parts_in m) = whole (h.answers.ended least) ∙ h.parts_are in
@@ -151,7 +152,7 @@ module _ (m : Search) where
         classes = end.classes;
         workers = h.answers.count;
         once = λ x. ap (times x) (sym h.answers.drawn_are) ∙ (times_same x w.claim.view.drawn ∙ (below.once x ∙ ap (once_below x) all));
-        shares = subst (λ l. AreShared m before (length entries) l hs) (ap (seen_formulas m) (sym is) ∙ seen_listed log listed_log) h.answers.shares;
+        shares = subst (λ l. AreShared m pool before (length entries) l hs) (ap (seen_formulas m) (sym is) ∙ seen_listed log listed_log) h.answers.shares;
       }
 
   -- the error's cause
@@ -161,15 +162,15 @@ module _ (m : Search) where
       record { new = end.new; gained = end.gained; classes = end.classes; cause = subst (λ l. IsCause m budget l e) end.log_is cause }
 
   -- what is closed
-  pub closed_whole : (budget : Option ℕ) (before : ℕ) (entries : List Entry) (w : Places) (j : Joined) → 1 ≤ m.workers → Placed entries → AllByRecursion Listed entries → IsClosable m budget entries before w j
-      → (r : Result Ended BreadthError) → IfOk r (λ (x : Ended). IsClosed w j x.log.items x.shares) → IfOk r (λ (x : Ended). IsWholeRound m before entries x.log.items x.shares)
-  closed_whole budget before entries w j least placed listed h (Err e) c = tt
-  closed_whole budget before entries w j least placed listed h (Ok x) c =
-      whole_round budget before c.drawn entries x.log.items w x.shares least placed listed (subst (IsClosable m budget entries before w) c.joined_is h) c.below c.whole c.placed c.holds c.log_is
+  pub closed_whole : (pool : Pool) (budget : Option ℕ) (before : ℕ) (entries : List Entry) (w : Places) (j : Joined) → 1 ≤ m.workers → Placed entries → AllByRecursion Listed entries → IsClosable m pool budget entries before w j
+      → (r : Result Ended BreadthError) → IfOk r (λ (x : Ended). IsClosed w j x.log.items x.shares) → IfOk r (λ (x : Ended). IsWholeRound m pool before entries x.log.items x.shares)
+  closed_whole pool budget before entries w j least placed listed h (Err e) c = tt
+  closed_whole pool budget before entries w j least placed listed h (Ok x) c =
+      whole_round pool budget before c.drawn entries x.log.items w x.shares least placed listed (subst (IsClosable m pool budget entries before w) c.joined_is h) c.below c.whole c.placed c.holds c.log_is
 
-  pub closed_cause : (budget : Option ℕ) (before : ℕ) (entries : List Entry) (w : Places) (j : Joined) → Placed entries → AllByRecursion Listed entries → IsClosable m budget entries before w j
+  pub closed_cause : (pool : Pool) (budget : Option ℕ) (before : ℕ) (entries : List Entry) (w : Places) (j : Joined) → Placed entries → AllByRecursion Listed entries → IsClosable m pool budget entries before w j
       → (r : Result Ended BreadthError) → IfErr r (λ e. (j ≡ came.Failed e) × HoldsEach w.log.view.own w.log.view.seen) → IfErr r (IsCauseOfRound m budget entries)
-  closed_cause budget before entries w j placed listed h (Ok x) c = tt
-  closed_cause budget before entries w j placed listed h (Err e) c =
-      let k : IsClosable m budget entries before w (came.Failed e) = subst (IsClosable m budget entries before w) c.0 h in
+  closed_cause pool budget before entries w j placed listed h (Ok x) c = tt
+  closed_cause pool budget before entries w j placed listed h (Err e) c =
+      let k : IsClosable m pool budget entries before w (came.Failed e) = subst (IsClosable m pool budget entries before w) c.0 h in
       cause_of_round budget entries w.log.view e placed listed k.owner c.1 k.answers

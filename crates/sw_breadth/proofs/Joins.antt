@@ -50,24 +50,24 @@ module _ (m : Search) (entries : List Entry) where
             (each-weaker (IsOwnEntry m worker w.seen) (IsOwned m (joined v w).seen) (λ e h. owned_stays m w.seen (joined v w).seen e pw (own_entry m worker w.seen e lt h)) g.entries g.each);
       }
 
-module _ (m : Search) (before since : ℕ) where
-  shares_none : (formulas : List Formula) → AreShared m before since formulas []
+module _ (m : Search) (pool : Pool) (before since : ℕ) where
+  shares_none : (formulas : List Formula) → AreShared m pool before since formulas []
   shares_none formulas i h e = absurd (none-some h e)
 
-  shares_stay : (seen more : List Entry) (hs : List Handed) → IsPrefix seen more → AreShared m before since (seen_formulas m seen) hs → AreShared m before since (seen_formulas m more) hs
-  shares_stay seen more hs p a i h e = shared_stays m before since seen more i h p (a i h e)
+  shares_stay : (seen more : List Entry) (hs : List Handed) → IsPrefix seen more → AreShared m pool before since (seen_formulas m seen) hs → AreShared m pool before since (seen_formulas m more) hs
+  shares_stay seen more hs p a i h e = shared_stays m pool before since seen more i h p (a i h e)
 
-  shares_push : (seen : List Entry) (hs : List Handed) (h : Handed) → AreShared m before since (seen_formulas m seen) hs → IsShared m before since (seen_formulas m seen) (length hs) h → AreShared m before since (seen_formulas m seen) (hs ++ h ∷ [])
+  shares_push : (seen : List Entry) (hs : List Handed) (h : Handed) → AreShared m pool before since (seen_formulas m seen) hs → IsShared m pool before since (seen_formulas m seen) (length hs) h → AreShared m pool before since (seen_formulas m seen) (hs ++ h ∷ [])
   shares_push seen hs h a s i x e =
       ⊎_elim (λ (k : slice_get hs i ≡ Some x). a i x k)
-      (λ (k : (i ≡ length hs) × (x ≡ h)). subst (λ n. IsShared m before since (seen_formulas m seen) n x) (sym k.0) (subst (IsShared m before since (seen_formulas m seen) (length hs)) (sym k.1) s)) (get_push_cases hs h i x e)
+      (λ (k : (i ≡ length hs) × (x ≡ h)). subst (λ n. IsShared m pool before since (seen_formulas m seen) n x) (sym k.0) (subst (IsShared m pool before since (seen_formulas m seen) (length hs)) (sym k.1) s)) (get_push_cases hs h i x e)
 
 module _ (m : Search) (budget : Option ℕ) (pool : Pool) (entries : List Entry) (before : ℕ) where
   abbrev Begun : ClaimView
   Begun = fresh_claim (length (parts_in m))
 
   whole_more : (done : ℕ) (c d : ClaimView) (v w : LogView) (hs : List Handed) (h : Handed) → IsPrefix v.seen (joined v w).seen → IsPrefix w.seen (joined v w).seen
-      → AreWhole m entries before done c v hs → IsWorked m pool done before Begun d (fresh_log entries) w (worked.Done h) → AreWhole m entries before (done + 1) (taken c d) (joined v w) (hs ++ h ∷ [])
+      → AreWhole m pool entries before done c v hs → IsWorked m pool done before Begun d (fresh_log entries) w (worked.Done h) → AreWhole m pool entries before (done + 1) (taken c d) (joined v w) (hs ++ h ∷ [])
   whole_more done c d v w hs h pv pw a b =
       let drew = b.0 in
       let ended = drew.ended in
@@ -79,14 +79,14 @@ module _ (m : Search) (budget : Option ℕ) (pool : Pool) (entries : List Entry)
         drawn_are = ap (λ l. l ++ d.drawn) a.drawn_are ∙ (ap (λ l. flat_map (λ (x : Handed). x.drawn) hs ++ l) (drew.gained ∙ sym (append-nil h.drawn)) ∙ sym (flat_map-append (λ (x : Handed). x.drawn) hs (h ∷ [])));
         ended = λ _. omega (arith, ended);
         silent = omega (arith, wrote, silent);
-        shares = shares_push m before (length entries) late hs h (shares_stay m before (length entries) v.seen late hs pv a.shares)
-            (subst (λ n. IsShared m before (length entries) (seen_formulas m late) n h) (sym a.count)
-            (shared_stays m before (length entries) w.seen late done h pw (record { share = b.1.share; timely = b.1.timely })));
+        shares = shares_push m pool before (length entries) late hs h (shares_stay m pool before (length entries) v.seen late hs pv a.shares)
+            (subst (λ n. IsShared m pool before (length entries) (seen_formulas m late) n h) (sym a.count)
+            (shared_stays m pool before (length entries) w.seen late done h pw (record { share = b.1.share; timely = b.1.timely; tokens = b.1.tokens })));
       }
 
   pub answer_joins : (done : ℕ) (c d : ClaimView) (v w : LogView) (j : Joined) (a : Result Worked BreadthError) → IsPrefix v.seen (joined v w).seen → IsPrefix w.seen (joined v w).seen
-      → IsJoined m budget entries before done c v j → IfOk a (IsWorked m pool done before Begun d (fresh_log entries) w) → IfErr a (IsCause m budget w.seen)
-      → IsJoined m budget entries before (done + 1) (taken c d) (joined v w) (with_answer j a)
+      → IsJoined m pool budget entries before done c v j → IfOk a (IsWorked m pool done before Begun d (fresh_log entries) w) → IfErr a (IsCause m budget w.seen)
+      → IsJoined m pool budget entries before (done + 1) (taken c d) (joined v w) (with_answer j a)
   answer_joins done c d v w (came.Whole hs) (Ok (worked.Done h)) pv pw is ok err = whole_more done c d v w hs h pv pw is ok
   answer_joins done c d v w (came.Whole hs) (Ok (worked.Stopped reason)) pv pw is ok err =
       let some = ok.0.some in let seen = ok.0.seen in let wrote = ok.0.wrote in let silent = is.silent in record { seen = omega (arith, some, seen); silent = omega (arith, wrote, silent) }
@@ -99,7 +99,7 @@ module _ (m : Search) (budget : Option ℕ) (pool : Pool) (entries : List Entry)
   answer_joins done c d v w (came.Failed f) a pv pw is ok err = cause_stays m budget v.seen (joined v w).seen f pv is
 
   -- before any was joined
-  pub none_joined : (out : ℕ) (f : Places) → AreFirst (length (parts_in m)) f.log.view.seen out 0 f → f.log.view.seen ≡ entries → HaveJoined m budget entries before 0 out f (came.Whole [])
+  pub none_joined : (out : ℕ) (f : Places) → AreFirst (length (parts_in m)) f.log.view.seen out 0 f → f.log.view.seen ≡ entries → HaveJoined m pool budget entries before 0 out f (came.Whole [])
   none_joined out f a same = record {
     claim_first = a.claim_first;
     claim_out = a.claim_out;
@@ -107,7 +107,7 @@ module _ (m : Search) (budget : Option ℕ) (pool : Pool) (entries : List Entry)
     log_first = a.log_first;
     log_out = a.log_out;
     owner = record { begins = subst (IsPrefix entries) (sym same) (begins_itself entries); more = []; own_are = a.own_are ∙ (same ∙ sym (append-nil entries)); each = tt };
-    answers = record { count = refl; drawn_are = a.undrawn; ended = λ h. absurd (omega arith); silent = a.silent; shares = shares_none m before (length entries) (seen_formulas m f.log.view.seen) };
+    answers = record { count = refl; drawn_are = a.undrawn; ended = λ h. absurd (omega arith); silent = a.silent; shares = shares_none m pool before (length entries) (seen_formulas m f.log.view.seen) };
   }
 
   -- the first seats, what was joined, and the reports that are left
@@ -116,7 +116,7 @@ module _ (m : Search) (budget : Option ℕ) (pool : Pool) (entries : List Entry)
     pub all : done + length rest ≡ m.workers
     pub seats : AreSeats s f
     pub reports : AreReports m budget pool s before entries done rest
-    pub state : HaveJoined m budget entries before done (length rest) f j
+    pub state : HaveJoined m pool budget entries before done (length rest) f j
 
   pub gathering_more : (s : Shared) (rest more : List Report) (r : Report) (f g : Places) (j : Joined) → rest ≡ r ∷ more → AreSeats s g → g.claim.view ≡ taken f.claim.view r.places.claim.view → g.log.view ≡ joined f.log.view r.places.log.view
       → IsPrefix (shorter_of f.log.view.seen r.places.log.view.seen) (longer_of f.log.view.seen r.places.log.view.seen) → Gathering s rest f j → Gathering s more g (with_answer j r.answer)
@@ -141,8 +141,8 @@ module _ (m : Search) (budget : Option ℕ) (pool : Pool) (entries : List Entry)
           log_first = ap (λ (u : LogView). u.first) log ∙ h.log_first;
           log_out = ap (λ (u : LogView). u.out) log ∙ omega (arith, out_log, counted);
           owner = subst (IsOwner m entries) (sym log) (owner_joins m entries a.done v w (omega (arith, total, counted)) both.0 both.1 h.owner one.gained);
-          answers = subst (λ u. IsJoined m budget entries before (a.done + 1) u g.log.view (with_answer j r.answer)) (sym claim)
-              (subst (λ u. IsJoined m budget entries before (a.done + 1) (taken c d) u (with_answer j r.answer)) (sym log)
+          answers = subst (λ u. IsJoined m pool budget entries before (a.done + 1) u g.log.view (with_answer j r.answer)) (sym claim)
+              (subst (λ u. IsJoined m pool budget entries before (a.done + 1) (taken c d) u (with_answer j r.answer)) (sym log)
               (answer_joins a.done c d v w j r.answer both.0 both.1 h.answers one.worked one.cause));
         };
       }
@@ -157,7 +157,7 @@ module _ (m : Search) (budget : Option ℕ) (pool : Pool) (entries : List Entry)
       )
 
   -- what was joined may be closed
-  pub closable : (w : Places) (j : Joined) → HaveJoined m budget entries before m.workers 0 w j → IsClosable m budget entries before w j
+  pub closable : (w : Places) (j : Joined) → HaveJoined m pool budget entries before m.workers 0 w j → IsClosable m pool budget entries before w j
   closable w j h = record { parts_are = parts j; claims = claims j h.answers; log = (h.log_first, h.log_out); owner = h.owner; answers = h.answers }
     where
       parts : (j : Joined) → HasParts (length (parts_in m)) w.claim.view j
@@ -165,7 +165,7 @@ module _ (m : Search) (budget : Option ℕ) (pool : Pool) (entries : List Entry)
       parts came.Stopped = tt
       parts (came.Failed e) = tt
 
-      claims : (j : Joined) → IsJoined m budget entries before m.workers w.claim.view w.log.view j → MayClose w.claim.view j
+      claims : (j : Joined) → IsJoined m pool budget entries before m.workers w.claim.view w.log.view j → MayClose w.claim.view j
       claims (came.Whole hs) a = (h.claim_first, h.claim_out)
       claims came.Stopped a = ((h.claim_first, h.claim_out), a)
       claims (came.Failed e) a = tt
@@ -205,10 +205,10 @@ module _ (m : Search) (budget : Option ℕ) (pool : Pool) (before : ℕ) (f : Pl
   lone_log : IsAlone w.log.view
   lone_log = (ap (λ (v : LogView). v.first) gained.is ∙ alone.log.0, ap (λ (v : LogView). v.out) gained.is ∙ alone.log.1)
 
-  pub lone_failed : (e : BreadthError) → IsCause m budget w.log.view.seen e → IsClosable m budget f.log.view.seen before w (came.Failed e)
+  pub lone_failed : (e : BreadthError) → IsCause m budget w.log.view.seen e → IsClosable m pool budget f.log.view.seen before w (came.Failed e)
   lone_failed e cause = record { parts_are = tt; claims = tt; log = lone_log; owner = lone_owner; answers = cause }
 
-  pub lone_whole : (h : Handed) → IsWorked m pool 0 before f.claim.view w.claim.view f.log.view w.log.view (worked.Done h) → IsClosable m budget f.log.view.seen before w (came.Whole (h ∷ []))
+  pub lone_whole : (h : Handed) → IsWorked m pool 0 before f.claim.view w.claim.view f.log.view w.log.view (worked.Done h) → IsClosable m pool budget f.log.view.seen before w (came.Whole (h ∷ []))
   lone_whole h did =
       let drew = did.0 in
       let at_first : f.claim.view.first ≡ true = ap (λ (v : ClaimView). v.first) alone.claims in
@@ -230,9 +230,9 @@ module _ (m : Search) (budget : Option ℕ) (pool : Pool) (before : ℕ) (f : Pl
         };
       }
     where
-      mine : IsShared m before (length f.log.view.seen) (seen_formulas m w.log.view.seen) 0 h
-      mine = record { share = did.1.share; timely = did.1.timely }
+      mine : IsShared m pool before (length f.log.view.seen) (seen_formulas m w.log.view.seen) 0 h
+      mine = record { share = did.1.share; timely = did.1.timely; tokens = did.1.tokens }
 
-      only : (i : ℕ) (x : Handed) → slice_get (h ∷ []) i ≡ Some x → IsShared m before (length f.log.view.seen) (seen_formulas m w.log.view.seen) i x
-      only zero x e = subst (IsShared m before (length f.log.view.seen) (seen_formulas m w.log.view.seen) 0) (same_Some h x e) mine
+      only : (i : ℕ) (x : Handed) → slice_get (h ∷ []) i ≡ Some x → IsShared m pool before (length f.log.view.seen) (seen_formulas m w.log.view.seen) i x
+      only zero x e = subst (IsShared m pool before (length f.log.view.seen) (seen_formulas m w.log.view.seen) 0) (same_Some h x e) mine
       only (suc i) x e = absurd (none-some x e)

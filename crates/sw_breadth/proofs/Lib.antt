@@ -5,6 +5,5 @@ pub mod Ends
 pub mod Joins
 pub mod Lives
 pub mod Passes
-pub mod Recorded
 pub mod Runs
 pub mod Stays

@@ -4,50 +4,41 @@ use Rattle.std.specs.List.{AllByRecursion, flat_map}
 use Rattle.std.proofs.Common.{refl, arith, sym, ap, ◌∙◌, subst, append_assoc, length-append}
 use Rattle.std.proofs.lemmas.Grind.{flat_map-append}
 use Rattle.std.proofs.lemmas.List.{append-nil, map-append, length-map}
+use Rattle.std.proofs.lemmas.Slice.Zip.{AllZip-long}
 use Rattle.sw_lists.proofs.Each.{each-append}
 use Rattle.sw_logic.specs.declared.syntax.Formula.{Formula}
 use Rattle.sw_filter.specs.declared.filter.Filter.{Filter}
 use Rattle.sw_log.specs.declared.entry.Entry.{Entry}
+use Rattle.sw_pool.specs.declared.pool.Pool.{Pool}
+use Rattle.sw_pool.specs.declared.pool.Seen.{Seen}
+use Rattle.sw_pool.specs.Pools.{IsShown, filter_of}
 use Rattle.sw_core.specs.declared.record.Kept.{Kept}
 use Rattle.sw_core.specs.declared.record.Record.{Record}
 use Rattle.sw_core.specs.declared.record.Round.{Round}
 use Rattle.sw_core.specs.Machine.{Search, formula_in, parts_in}
 use Rattle.sw_core.specs.Records.{times}
-use Rattle.sw_core.specs.Gathered.{AreGained, AreOutcomes, IsLiveBy, IsOutcome, IsShare, Outcome, Share, filters_after, filters_of, formulas_of, kept_of, log_after, once_below, round_of, rounds_of, settled_of}
+use Rattle.sw_core.specs.Gathered.{AreGained, AreOutcomes, IsLiveBy, IsOutcome, IsShareAmong, Outcome, Share, filters_after, filters_of, formulas_of, kept_of, log_after, once_below, round_of, rounds_of, settled_of}
+use Rattle.sw_core.proofs.Lists.{each_got}
+use Rattle.sw_gather.proofs.Shares.{AreMergedShares, drawn_same, live_same, shares_among}
+use Rattle.sw_gather.specs.Gathers.{HasTokens, shown_by}
 use Rattle.sw_hand.specs.declared.hand.Handed.{Handed}
-use Rattle.sw_hand.specs.Hands.{share_of}
 use Rattle.sw_breadth.specs.Joins.{IsWholeRound}
-use Rattle.sw_breadth.specs.Records.{AreRounds, HaveRun, IsLiveRound, entries_of, kept_by, outcome_of}
+use Rattle.sw_breadth.specs.Records.{AreRounds, HasRound, HaveRun, IsLiveRound, entries_of, kept_by}
 use Rattle.sw_breadth.specs.Rounds.{IsGathered}
 use Rattle.sw_breadth.proofs.Earns.{gained_on}
 use Rattle.sw_breadth.proofs.Ends.{Listed}
 
--- an element of a mapped list comes of one of the list
-unmapped : {X Y : Type 0} (f : X → Y) (xs : List X) (i : ℕ) (y : Y) → slice_get (map f xs) i ≡ Some y → (x : X) × (slice_get xs i ≡ Some x) × (f x ≡ y)
-unmapped f [] i y e = absurd (cc)
-unmapped f (x ∷ xs) zero y e = (x, refl, cc)
-unmapped f (x ∷ xs) (suc i) y e = unmapped f xs i y e
-
-drawn_same : (hs : List Handed) → flat_map (λ (s : Share). s.drawn) (map share_of hs) ≡ flat_map (λ (h : Handed). h.drawn) hs
-drawn_same [] = refl
-drawn_same (h ∷ hs) = ap (λ l. h.drawn ++ l) (drawn_same hs)
-
 -- the records of rounds, with one more
-rounds_push : (count log : ℕ) (os : List Outcome) (o : Outcome) → rounds_of count log (os ++ o ∷ []) ≡ rounds_of count log os ++ round_of (count + length (kept_by os)) ((log + length (entries_of os)) + length o.entries) o ∷ []
-rounds_push count log [] o =
-    let c : count ≡ count + 0 = omega arith in
+rounds_push : (log : ℕ) (os : List Outcome) (o : Outcome) → rounds_of log (os ++ o ∷ []) ≡ rounds_of log os ++ round_of ((log + length (entries_of os)) + length o.entries) o ∷ []
+rounds_push log [] o =
     let l : log + length o.entries ≡ (log + 0) + length o.entries = omega arith in
-    ap (λ n. round_of n (log + length o.entries) o ∷ []) c ∙ ap (λ n. round_of (count + 0) n o ∷ []) l
-rounds_push count log (p ∷ os) o =
-    let first = round_of count (log + length p.entries) p in
-    let k : length (kept_by (p ∷ os)) ≡ length (kept_of p.shares) + length (kept_by os) = length-append (kept_of p.shares) (kept_by os) in
+    ap (λ n. round_of n o ∷ []) l
+rounds_push log (p ∷ os) o =
     let e : length (entries_of (p ∷ os)) ≡ length p.entries + length (entries_of os) = length-append p.entries (entries_of os) in
-    let c : (count + length (kept_of p.shares)) + length (kept_by os) ≡ count + length (kept_by (p ∷ os)) = omega (arith, k) in
     let l : ((log + length p.entries) + length (entries_of os)) + length o.entries ≡ (log + length (entries_of (p ∷ os))) + length o.entries = omega (arith, e) in
-    let rest = rounds_of (count + length (kept_of p.shares)) (log + length p.entries) os in
-    ap (λ rs. first ∷ rs) (rounds_push (count + length (kept_of p.shares)) (log + length p.entries) os o)
-    ∙ (ap (λ n. first ∷ (rest ++ round_of n (((log + length p.entries) + length (entries_of os)) + length o.entries) o ∷ [])) c
-    ∙ ap (λ n. first ∷ (rest ++ round_of (count + length (kept_by (p ∷ os))) n o ∷ [])) l)
+    let first = round_of (log + length p.entries) p in
+    let rest = rounds_of (log + length p.entries) os in
+    ap (λ rs. first ∷ rs) (rounds_push (log + length p.entries) os o) ∙ ap (λ n. first ∷ (rest ++ round_of n o ∷ [])) l
 
 module _ (m : Search) where
   -- the list and the filters after some rounds
@@ -68,7 +59,7 @@ module _ (m : Search) where
 
   -- the outcome's settlements are live
   abbrev IsLast : List Formula → List Filter → Outcome → Type 0
-  IsLast log fs o = AllByRecursion (IsLiveBy m (log_after m log o) (filters_after fs o)) (settled_of (length fs) 0 o.shares)
+  IsLast log fs o = AllByRecursion (IsLiveBy m (log_after m log o) (filters_after fs o)) (settled_of o.shares)
 
   moved_on : (P : List Formula → List Filter → Type 0) (log : List Formula) (fs : List Filter) (p : Outcome) (os : List Outcome) → P (list_after log (p ∷ os)) (all_after fs (p ∷ os)) → P (list_after (log_after m log p) os) (all_after (filters_after fs p) os)
   moved_on P log fs p os h = subst (λ l. P l (all_after (filters_after fs p) os)) (list_shift log p os) (subst (λ f. P (list_after log (p ∷ os)) f) (all_shift fs p os) h)
@@ -90,97 +81,111 @@ module _ (m : Search) where
       outcomes_first log fs p (os ++ o ∷ []) a.0
       (outcomes_last (log_after m log p) (filters_after fs p) os o a.1 (moved_on (λ l f. Is l f o) log fs p os b) (moved_on (λ l f. IsLast l f o) log fs p os l))
 
-  module _ (entries log : List Entry) (rounds : List Round) (before : ℕ) (hs : List Handed) (run : HaveRun m entries rounds before) (whole : IsWholeRound m before entries log hs) where
-    abbrev Now : Outcome
-    Now = outcome_of hs whole.new
-
-    abbrev Fs : List Filter
-    Fs = filters_of (kept_by run.outcomes)
-
-    count_is : length Fs ≡ before
-    count_is = length-map (kept_by run.outcomes) _ ∙ sym run.filters_are
-
-    log_now : formulas_of m log ≡ log_after m (formulas_of m entries) Now
-    log_now = ap (formulas_of m) whole.log_is ∙ map-append (λ (e : Entry). formula_in m e.body.cubes) entries whole.new
-
-    log_long : length log ≡ length entries + length whole.new
-    log_long = ap length whole.log_is ∙ length-append entries whole.new
-
-    is_outcome : Is (formulas_of m entries) Fs Now
-    is_outcome = record {
-      workers = length-map hs share_of ∙ whole.workers;
-      once = λ x. ap (times x) (drawn_same hs) ∙ whole.once x;
-      entries = whole.gained;
-      shares = λ i share at.
-          let h = unmapped share_of hs i share at in
-          subst (λ l. IsShare m Fs l i share) log_now (subst (IsShare m Fs (formulas_of m log) i) h.2 ((whole.shares i h.0 h.1).share Fs count_is));
-    }
-
-    at_end : Is (list_after [] run.outcomes) (all_after [] run.outcomes) Now
-    at_end = subst (λ l. Is (formulas_of m l) Fs Now) run.entries_are is_outcome
-
-    -- the round's record
-    abbrev Noted : Round
-    Noted = round_of before (length log) (outcome_of hs [])
-
-    noted : rounds ++ Noted ∷ [] ≡ rounds_of 0 0 (run.outcomes ++ Now ∷ [])
-    noted =
-        let count : before ≡ 0 + length (kept_by run.outcomes) = omega (arith, run.filters_are) in
-        let same : length entries ≡ length (entries_of run.outcomes) = ap length run.entries_are in
-        let long : length log ≡ (0 + length (entries_of run.outcomes)) + length whole.new = omega (arith, log_long, same) in
-        ap (λ rs. rs ++ Noted ∷ []) run.rounds_are
-        ∙ (ap (λ n. rounds_of 0 0 run.outcomes ++ round_of n (length log) (outcome_of hs []) ∷ []) count
-        ∙ (ap (λ n. rounds_of 0 0 run.outcomes ++ round_of (0 + length (kept_by run.outcomes)) n (outcome_of hs []) ∷ []) long
-        ∙ sym (rounds_push 0 0 run.outcomes Now)))
-
-    log_of : log ≡ entries_of (run.outcomes ++ Now ∷ [])
-    log_of = whole.log_is ∙ (ap (λ l. l ++ whole.new) run.entries_are
-        ∙ (ap (λ l. entries_of run.outcomes ++ l) (sym (append-nil whole.new)) ∙ sym (flat_map-append (λ (o : Outcome). o.entries) run.outcomes (Now ∷ []))))
-
+  module _ (pool : Pool) (entries log : List Entry) (rounds : List Round) (tokens : List Seen) (before : ℕ) (hs : List Handed) (size : before ≡ length tokens)
+      (run : HaveRun m pool entries rounds tokens) (whole : IsWholeRound m pool before entries log hs) where
     pub listed_log : AllByRecursion (Listed m) log
     listed_log = subst (AllByRecursion (Listed m)) (sym whole.log_is) (each-append (Listed m) entries whole.new run.classes whole.classes)
 
-    one_more : length (run.outcomes ++ Now ∷ []) ≡ length run.outcomes + 1
-    one_more = length-append run.outcomes (Now ∷ [])
+    pub have_tokens : AllByRecursion (HasTokens pool) hs
+    have_tokens = each_got (HasTokens pool) hs (λ i h at. (whole.shares i h at).tokens)
 
-    pub have_run_more : (filters : ℕ) → filters ≡ before + length (kept_of (map share_of hs)) → length entries < length log → HaveRun m log (rounds ++ Noted ∷ []) filters
-    have_run_more filters sum longer =
-        let few = run.few in
-        let kept : length (kept_by (run.outcomes ++ Now ∷ [])) ≡ length (kept_by run.outcomes) + length (kept_of (map share_of hs)) =
-        ap length (flat_map-append (λ (o : Outcome). kept_of o.shares) run.outcomes (Now ∷ [])) ∙ (length-append (kept_by run.outcomes) (kept_of (map share_of hs) ++ []) ∙ ap (λ l. length (kept_by run.outcomes) + length l) (append-nil (kept_of (map share_of hs)))) in
-        record {
-          outcomes = run.outcomes ++ Now ∷ [];
-          entries_are = log_of;
-          rounds_are = noted;
-          whole = rounds_more [] [] run.outcomes Now run.whole at_end;
-          filters_are = omega (arith, sum, kept, run.filters_are);
-          few = omega (arith, few, one_more, longer);
-          placed = whole.placed;
-          gained = subst (λ l. AreGained m [] l) (sym whole.log_is) (gained_on m [] entries whole.new run.gained whole.gained);
-          classes = listed_log;
-        }
+    module _ (now : List Round) (tokens_now : List Seen) (round : HasRound tokens tokens_now rounds now (length log) hs) where
+      abbrev Now : Outcome
+      Now = record { shares = round.is.merged; entries = whole.new }
 
-    pub is_gathered : IsLiveRound m before log hs → IsGathered m (record { entries = log; rounds = rounds ++ Noted ∷ [] })
-    is_gathered live =
-        let few = run.few in
-        let last : IsLast (formulas_of m entries) Fs Now =
-        subst (λ l. AllByRecursion (IsLiveBy m l (filters_after Fs Now)) (settled_of (length Fs) 0 (map share_of hs))) log_now (live Fs count_is) in
-        record {
-          outcomes = run.outcomes ++ Now ∷ [];
-          is = ap (λ l. (let r : Record = record { entries = l; rounds = rounds ++ Noted ∷ [] } in r)) log_of ∙ ap (λ rs. (let r : Record = record { entries = entries_of (run.outcomes ++ Now ∷ []); rounds = rs } in r)) noted;
-          whole = outcomes_last [] [] run.outcomes Now run.whole at_end (subst (λ l. IsLast (formulas_of m l) Fs Now) run.entries_are last);
-          few = omega (arith, few, one_more, log_long);
-          classes = listed_log;
-        }
+      abbrev Fs : List Filter
+      Fs = filters_of (kept_by run.outcomes)
+
+      count_is : length Fs ≡ before
+      count_is = ap length run.filters_are ∙ (length-map tokens filter_of ∙ sym size)
+
+      all_is : shown_by tokens_now ≡ filters_after Fs Now
+      all_is = round.is.all_are ∙ ap (λ l. l ++ filters_of (kept_of round.is.merged)) (sym run.filters_are)
+
+      merged : AreMergedShares Fs (filters_after Fs Now) hs round.is.merged
+      merged =
+          subst (λ all. AreMergedShares Fs all hs round.is.merged) all_is
+          (subst (λ fs. AreMergedShares fs (shown_by tokens_now) hs round.is.merged) (sym run.filters_are) round.is.each)
+
+      log_now : formulas_of m log ≡ log_after m (formulas_of m entries) Now
+      log_now = ap (formulas_of m) whole.log_is ∙ map-append (λ (e : Entry). formula_in m e.body.cubes) entries whole.new
+
+      log_long : length log ≡ length entries + length whole.new
+      log_long = ap length whole.log_is ∙ length-append entries whole.new
+
+      is_outcome : Is (formulas_of m entries) Fs Now
+      is_outcome = record {
+        workers = AllZip-long _ hs round.is.merged merged ∙ whole.workers;
+        once = λ x. ap (times x) (drawn_same Fs (filters_after Fs Now) hs round.is.merged merged) ∙ whole.once x;
+        entries = whole.gained;
+        shares = subst (λ l. (i : ℕ) (share : Share) → slice_get round.is.merged i ≡ Some share → IsShareAmong m (filters_after Fs Now) l i share) log_now
+            (shares_among m (formulas_of m log) Fs (filters_after Fs Now) hs round.is.merged merged (λ i h at. (whole.shares i h at).share Fs count_is));
+      }
+
+      at_end : Is (list_after [] run.outcomes) (all_after [] run.outcomes) Now
+      at_end = subst (λ l. Is (formulas_of m l) Fs Now) run.entries_are is_outcome
+
+      noted : now ≡ rounds_of 0 (run.outcomes ++ Now ∷ [])
+      noted =
+          let same : length entries ≡ length (entries_of run.outcomes) = ap length run.entries_are in
+          let long : length log ≡ (0 + length (entries_of run.outcomes)) + length whole.new = omega (arith, log_long, same) in
+          round.added
+          ∙ (ap (λ rs. rs ++ round.round ∷ []) run.rounds_are
+          ∙ (ap (λ r. rounds_of 0 run.outcomes ++ r ∷ []) round.is.round
+          ∙ (ap (λ n. rounds_of 0 run.outcomes ++ round_of n Now ∷ []) long
+          ∙ sym (rounds_push 0 run.outcomes Now))))
+
+      log_of : log ≡ entries_of (run.outcomes ++ Now ∷ [])
+      log_of = whole.log_is ∙ (ap (λ l. l ++ whole.new) run.entries_are
+          ∙ (ap (λ l. entries_of run.outcomes ++ l) (sym (append-nil whole.new)) ∙ sym (flat_map-append (λ (o : Outcome). o.entries) run.outcomes (Now ∷ []))))
+
+      one_more : length (run.outcomes ++ Now ∷ []) ≡ length run.outcomes + 1
+      one_more = length-append run.outcomes (Now ∷ [])
+
+      filters_now : filters_of (kept_by (run.outcomes ++ Now ∷ [])) ≡ shown_by tokens_now
+      filters_now =
+          ap filters_of (flat_map-append (λ (o : Outcome). kept_of o.shares) run.outcomes (Now ∷ []) ∙ ap (λ l. kept_by run.outcomes ++ l) (append-nil (kept_of round.is.merged)))
+          ∙ (map-append (λ (k : Kept). k.filter) (kept_by run.outcomes) (kept_of round.is.merged) ∙ sym all_is)
+
+      pub have_run_more : AllByRecursion (IsShown pool) tokens_now → length entries < length log → HaveRun m pool log now tokens_now
+      have_run_more shown longer =
+          let few = run.few in
+          record {
+            outcomes = run.outcomes ++ Now ∷ [];
+            entries_are = log_of;
+            rounds_are = noted;
+            whole = rounds_more [] [] run.outcomes Now run.whole at_end;
+            filters_are = filters_now;
+            shown = shown;
+            few = omega (arith, few, one_more, longer);
+            placed = whole.placed;
+            gained = subst (λ l. AreGained m [] l) (sym whole.log_is) (gained_on m [] entries whole.new run.gained whole.gained);
+            classes = listed_log;
+          }
+
+      pub is_gathered : IsLiveRound m before log hs → IsGathered m (record { entries = log; rounds = now })
+      is_gathered live =
+          let few = run.few in
+          let last : IsLast (formulas_of m entries) Fs Now =
+          subst (λ l. AllByRecursion (IsLiveBy m l (filters_after Fs Now)) (settled_of round.is.merged)) log_now
+          (live_same m (formulas_of m log) Fs (filters_after Fs Now) hs round.is.merged merged (live Fs count_is)) in
+          record {
+            outcomes = run.outcomes ++ Now ∷ [];
+            is = ap (λ l. (let r : Record = record { entries = l; rounds = now } in r)) log_of ∙ ap (λ rs. (let r : Record = record { entries = entries_of (run.outcomes ++ Now ∷ []); rounds = rs } in r)) noted;
+            whole = outcomes_last [] [] run.outcomes Now run.whole at_end (subst (λ l. IsLast (formulas_of m l) Fs Now) run.entries_are last);
+            few = omega (arith, few, one_more, log_long);
+            classes = listed_log;
+          }
 
 -- before the first round
-pub have_run_none : (m : Search) → HaveRun m [] [] 0
-have_run_none m = record { outcomes = []; entries_are = refl; rounds_are = refl; whole = tt; filters_are = refl; few = omega arith; placed = λ i e at. absurd (cc); gained = tt; classes = tt }
+pub have_run_none : (m : Search) (pool : Pool) → HaveRun m pool [] [] []
+have_run_none m pool = record { outcomes = []; entries_are = refl; rounds_are = refl; whole = tt; filters_are = refl; shown = tt; few = omega arith; placed = λ i e at. absurd (cc); gained = tt; classes = tt }
 
 -- the record that is handed back
 pub gathered_as : (m : Search) (r : Record) (log : List Entry) (rounds : List Round) → r.entries ≡ log → r.rounds ≡ rounds → IsGathered m (record { entries = log; rounds = rounds }) → IsGathered m r
 gathered_as m r log rounds e f h =
     subst (λ es. IsGathered m (record { entries = es; rounds = r.rounds })) (sym e) (subst (λ rs. IsGathered m (record { entries = log; rounds = rs })) (sym f) h)
 
-pub run_as : (m : Search) (entries log : List Entry) (made rounds : List Round) (filters : ℕ) → entries ≡ log → made ≡ rounds → HaveRun m log rounds filters → HaveRun m entries made filters
-run_as m entries log made rounds filters e f h = subst (λ es. HaveRun m es made filters) (sym e) (subst (λ rs. HaveRun m log rs filters) (sym f) h)
+pub run_as : (m : Search) (pool : Pool) (entries log : List Entry) (made rounds : List Round) (tokens shown : List Seen) → entries ≡ log → made ≡ rounds → tokens ≡ shown → HaveRun m pool log rounds shown → HaveRun m pool entries made tokens
+run_as m pool entries log made rounds tokens shown e f t h =
+    subst (λ es. HaveRun m pool es made tokens) (sym e) (subst (λ rs. HaveRun m pool log rs tokens) (sym f) (subst (HaveRun m pool log rounds) (sym t) h))

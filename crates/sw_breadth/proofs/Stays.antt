@@ -19,6 +19,7 @@ use Rattle.sw_core.specs.Machine.{Search, formula_in, filters_at}
 use Rattle.sw_core.specs.Founded.{Gains}
 use Rattle.sw_core.specs.Gathered.{IsShare, IsSettledBy, IsTimely, filters_of}
 use Rattle.sw_core.proofs.Shares.{share_stays}
+use Rattle.sw_pool.specs.declared.pool.Pool.{Pool}
 use Rattle.sw_hand.specs.declared.hand.Handed.{Handed}
 use Rattle.sw_hand.specs.Hands.{share_of}
 use Rattle.sw_work.specs.declared.errors.BreadthError.{BreadthError}
@@ -53,8 +54,8 @@ module _ (m : Search) where
     live = subst (λ l. AllByRecursion (IsLive m.protocol m.mode l) (filters_at all x.by)) (sym (take-append-le x.under formulas more s.under)) t.live;
   }
 
-  pub shared_stays : (before since : ℕ) (seen more : List Entry) (worker : ℕ) (h : Handed) → IsPrefix seen more → IsShared m before since (seen_formulas m seen) worker h → IsShared m before since (seen_formulas m more) worker h
-  shared_stays before since seen more worker h p s =
+  pub shared_stays : (pool : Pool) (before since : ℕ) (seen more : List Entry) (worker : ℕ) (h : Handed) → IsPrefix seen more → IsShared m pool before since (seen_formulas m seen) worker h → IsShared m pool before since (seen_formulas m more) worker h
+  shared_stays pool before since seen more worker h p s =
       let formulas = seen_formulas m seen in
       let rest = seen_formulas m p.0 in
       record {
@@ -65,6 +66,7 @@ module _ (m : Search) where
             subst (λ l. AllByRecursion (IsTimely m since l all) h.settled) (sym (seen_more seen more p))
             (each-weaker (λ x. IsSettledBy m worker formulas all x × IsTimely m since formulas all x) (IsTimely m since (formulas ++ rest) all) (λ x a. timely_on since formulas rest worker all x a.0 a.1) h.settled
             (each-both (IsSettledBy m worker formulas all) (IsTimely m since formulas all) h.settled sh.settled (s.timely fs e)));
+        tokens = s.tokens;
       }
 
   asked_stays : (seen more : List Entry) (list : List Class) (name : QueryName) (Met : Query → Type 0) → IsPrefix seen more → AskedUnder m seen list name Met → AskedUnder m more list name Met

@@ -20,6 +20,7 @@ use Rattle.sw_core.specs.Gathered.{Share, IsShare, IsTimely, AreGained, filters_
 use Rattle.sw_core.specs.Records.{times}
 use Rattle.sw_walk.specs.Parts.{classes_of, IsClass}
 use Rattle.sw_hand.specs.declared.hand.Handed.{Handed}
+use Rattle.sw_gather.specs.Gathers.{HasTokens}
 use Rattle.sw_hand.specs.Hands.{share_of}
 use Rattle.sw_work.specs.declared.errors.BreadthError.{BreadthError}
 use Rattle.sw_work.specs.declared.working.Worked.{Worked}
@@ -84,13 +85,14 @@ AreReports m budget pool s before entries worker (r ∷ rs) = IsReport m budget 
 
 -- ---- what was joined
 
--- a worker's share of a round, under a list that begins with what the worker has seen
-pub record IsShared (m : Search) (before since : ℕ) (formulas : List Formula) (worker : ℕ) (h : Handed) : Type 0 where
+-- a worker's share of a round, under a list that begins with what the worker has seen, with a token of the pool for each filter
+pub record IsShared (m : Search) (pool : Pool) (before since : ℕ) (formulas : List Formula) (worker : ℕ) (h : Handed) : Type 0 where
   pub share : (filters : List Filter) → length filters ≡ before → IsShare m filters formulas worker (share_of h)
   pub timely : (filters : List Filter) → length filters ≡ before → AllByRecursion (IsTimely m since formulas (filters ++ filters_of h.kept)) h.settled
+  pub tokens : HasTokens pool h
 
-abbrev pub AreShared : Search → ℕ → ℕ → List Formula → List Handed → Type 0
-AreShared m before since formulas hs = (i : ℕ) (h : Handed) → slice_get hs i ≡ Some h → IsShared m before since formulas i h
+abbrev pub AreShared : Search → Pool → ℕ → ℕ → List Formula → List Handed → Type 0
+AreShared m pool before since formulas hs = (i : ℕ) (h : Handed) → slice_get hs i ≡ Some h → IsShared m pool before since formulas i h
 
 -- a class that some worker gained under the list before it
 pub record IsOwned (m : Search) (seen : List Entry) (e : Entry) : Type 0 where
@@ -107,12 +109,12 @@ pub record IsOwner (m : Search) (entries : List Entry) (v : LogView) : Type 0 wh
   pub each : AllByRecursion (IsOwned m v.seen) more
 
 -- so many workers handed back their shares, and none stopped
-pub record AreWhole (m : Search) (entries : List Entry) (before done : ℕ) (c : ClaimView) (v : LogView) (hs : List Handed) : Type 0 where
+pub record AreWhole (m : Search) (pool : Pool) (entries : List Entry) (before done : ℕ) (c : ClaimView) (v : LogView) (hs : List Handed) : Type 0 where
   pub count : length hs ≡ done
   pub drawn_are : c.drawn ≡ flat_map (λ (h : Handed). h.drawn) hs
   pub ended : 1 ≤ done → 1 ≤ c.ends
   pub silent : c.wrote ≡ 0
-  pub shares : AreShared m before (length entries) (seen_formulas m v.seen) hs
+  pub shares : AreShared m pool before (length entries) (seen_formulas m v.seen) hs
 
 -- some worker saw a reason, and none wrote one
 pub record IsStopped (c : ClaimView) : Type 0 where
@@ -120,10 +122,10 @@ pub record IsStopped (c : ClaimView) : Type 0 where
   pub silent : c.wrote ≡ 0
 
 -- what so many workers came to
-abbrev pub IsJoined : Search → Option ℕ → List Entry → ℕ → ℕ → ClaimView → LogView → Joined → Type 0
-IsJoined m budget entries before done c v (joined.Whole hs) = AreWhole m entries before done c v hs
-IsJoined m budget entries before done c v joined.Stopped = IsStopped c
-IsJoined m budget entries before done c v (joined.Failed e) = IsCauseAt m budget v.seen e
+abbrev pub IsJoined : Search → Pool → Option ℕ → List Entry → ℕ → ℕ → ClaimView → LogView → Joined → Type 0
+IsJoined m pool budget entries before done c v (joined.Whole hs) = AreWhole m pool entries before done c v hs
+IsJoined m pool budget entries before done c v joined.Stopped = IsStopped c
+IsJoined m pool budget entries before done c v (joined.Failed e) = IsCauseAt m budget v.seen e
 
 -- what was joined, with one answer more
 abbrev pub with_answer : Joined → Result Worked BreadthError → Joined
@@ -135,14 +137,14 @@ with_answer joined.Stopped (Err e) = joined.Failed e
 with_answer (joined.Failed f) answer = joined.Failed f
 
 -- the first seats, once so many workers were joined and while others are out
-pub record HaveJoined (m : Search) (budget : Option ℕ) (entries : List Entry) (before done out : ℕ) (w : Places) (j : Joined) : Type 0 where
+pub record HaveJoined (m : Search) (pool : Pool) (budget : Option ℕ) (entries : List Entry) (before done out : ℕ) (w : Places) (j : Joined) : Type 0 where
   pub claim_first : w.claim.view.first ≡ true
   pub claim_out : w.claim.view.out ≡ out
   pub parts_are : w.claim.view.parts ≡ length (parts_in m)
   pub log_first : w.log.view.first ≡ true
   pub log_out : w.log.view.out ≡ out
   pub owner : IsOwner m entries w.log.view
-  pub answers : IsJoined m budget entries before done w.claim.view w.log.view j
+  pub answers : IsJoined m pool budget entries before done w.claim.view w.log.view j
 
 -- the claims may be closed, which no reason that is seen and that none wrote allows
 abbrev pub MayClose : ClaimView → Joined → Type 0
@@ -157,12 +159,12 @@ HasParts n c joined.Stopped = Unit {0}
 HasParts n c (joined.Failed e) = Unit {0}
 
 -- the first seats once all workers were joined
-pub record IsClosable (m : Search) (budget : Option ℕ) (entries : List Entry) (before : ℕ) (w : Places) (j : Joined) : Type 0 where
+pub record IsClosable (m : Search) (pool : Pool) (budget : Option ℕ) (entries : List Entry) (before : ℕ) (w : Places) (j : Joined) : Type 0 where
   pub parts_are : HasParts (length (parts_in m)) w.claim.view j
   pub claims : MayClose w.claim.view j
   pub log : IsAloneAtLog w.log.view
   pub owner : IsOwner m entries w.log.view
-  pub answers : IsJoined m budget entries before m.workers w.claim.view w.log.view j
+  pub answers : IsJoined m pool budget entries before m.workers w.claim.view w.log.view j
 
 -- the claims and the log were closed
 pub record IsClosed (w : Places) (j : Joined) (log : List Entry) (hs : List Handed) : Type 0 where
@@ -184,7 +186,7 @@ IsPlainlyJoined m entries log (joined.Failed e) =
 -- ---- what a round leaves
 
 -- each part was drawn once, and the log begins with the entries before, and gained the others
-pub record IsWholeRound (m : Search) (before : ℕ) (entries log : List Entry) (hs : List Handed) : Type 0 where
+pub record IsWholeRound (m : Search) (pool : Pool) (before : ℕ) (entries log : List Entry) (hs : List Handed) : Type 0 where
   pub new : List Entry
   pub log_is : log ≡ entries ++ new
   pub placed : Placed log
@@ -192,7 +194,7 @@ pub record IsWholeRound (m : Search) (before : ℕ) (entries log : List Entry) (
   pub classes : AllByRecursion (λ (e : Entry). IsClass (parts_in m) e.body) new
   pub workers : length hs ≡ m.workers
   pub once : (x : ℕ) → times x (flat_map (λ (h : Handed). h.drawn) hs) ≡ once_below x (length (parts_in m))
-  pub shares : AreShared m before (length entries) (formulas_of m log) hs
+  pub shares : AreShared m pool before (length entries) (formulas_of m log) hs
 
 -- the error's cause, under a front of a log that begins with the entries before and gained the others
 pub record IsCauseOfRound (m : Search) (budget : Option ℕ) (entries : List Entry) (e : BreadthError) : Type 0 where

@@ -10,14 +10,17 @@ use Rattle.sw_filter.specs.declared.filter.Mode.TheVariants.{Breadth}
 use Rattle.sw_filter.specs.Filters.{IsLive}
 use Rattle.sw_log.specs.declared.entry.Entry.{Entry}
 use Rattle.sw_log.specs.LogRule.{Placed}
+use Rattle.sw_pool.specs.declared.pool.Pool.{Pool}
+use Rattle.sw_pool.specs.declared.pool.Seen.{Seen}
+use Rattle.sw_pool.specs.Pools.{IsShown}
 use Rattle.sw_core.specs.declared.record.Kept.{Kept}
 use Rattle.sw_core.specs.declared.record.Settled.{Settled}
 use Rattle.sw_core.specs.declared.record.Round.{Round}
 use Rattle.sw_core.specs.Machine.{Search, parts_in}
-use Rattle.sw_core.specs.Gathered.{Share, Outcome, IsOutcome, IsLiveBy, AreGained, filters_after, filters_of, formulas_of, kept_of, log_after, moved, rounds_of, settled_of}
+use Rattle.sw_core.specs.Gathered.{Share, Outcome, IsOutcome, IsLiveBy, AreGained, filters_after, filters_of, formulas_of, kept_of, log_after, rounds_of}
 use Rattle.sw_walk.specs.Parts.{classes_of, IsClass}
 use Rattle.sw_hand.specs.declared.hand.Handed.{Handed}
-use Rattle.sw_hand.specs.Hands.{share_of}
+use Rattle.sw_gather.specs.Gathers.{IsRoundOf, shown_by}
 use Rattle.sw_work.specs.Works.{bodies_of}
 
 -- ---- a round's settlements
@@ -37,19 +40,10 @@ AreLiveAt p list before kept places = AllByRecursion (IsLiveAt p list before kep
 abbrev pub IsLiveShare : Protocol → List Formula → ℕ → Handed → Type 0
 IsLiveShare p list before h = AllByRecursion (λ (x : Settled). AreLiveAt p list before h.kept x.by) h.settled
 
--- what a round leaves
-abbrev pub outcome_of : List Handed → List Entry → Outcome
-outcome_of hs new = record { shares = map share_of hs; entries = new }
-
--- the record's round with one share more
-abbrev pub with_share : ℕ → Round → Handed → Round
-with_share before r h =
-    record r { drawn = r.drawn ++ h.drawn ∷ []; kept = r.kept ++ h.kept; settled = r.settled ++ map (moved before (length r.kept)) h.settled }
-
 -- the filters of the round's settlements are live under the whole log
 abbrev pub IsLiveRound : Search → ℕ → List Entry → List Handed → Type 0
 IsLiveRound m before log hs =
-    (filters : List Filter) → length filters ≡ before → AllByRecursion (IsLiveBy m (formulas_of m log) (filters ++ filters_of (kept_of (map share_of hs)))) (settled_of (length filters) 0 (map share_of hs))
+    (filters : List Filter) → length filters ≡ before → AllByRecursion (λ (h : Handed). AllByRecursion (IsLiveBy m (formulas_of m log) (filters ++ filters_of h.kept)) h.settled) hs
 
 -- ---- the rounds so far
 
@@ -64,13 +58,14 @@ abbrev pub AreRounds : Search → List Formula → List Filter → List Outcome 
 AreRounds m log filters [] = Unit {0}
 AreRounds m log filters (o ∷ os) = IsOutcome m log filters o × AreRounds m (log_after m log o) (filters_after filters o) os
 
--- whole rounds were made, each of which gained some entry
-pub record HaveRun (m : Search) (entries : List Entry) (rounds : List Round) (filters : ℕ) : Type 0 where
+-- whole rounds were made, each of which gained some entry; tokens of the pool show the filters that they kept
+pub record HaveRun (m : Search) (pool : Pool) (entries : List Entry) (rounds : List Round) (tokens : List Seen) : Type 0 where
   pub outcomes : List Outcome
   pub entries_are : entries ≡ entries_of outcomes
-  pub rounds_are : rounds ≡ rounds_of 0 0 outcomes
+  pub rounds_are : rounds ≡ rounds_of 0 outcomes
   pub whole : AreRounds m [] [] outcomes
-  pub filters_are : filters ≡ length (kept_by outcomes)
+  pub filters_are : filters_of (kept_by outcomes) ≡ shown_by tokens
+  pub shown : AllByRecursion (IsShown pool) tokens
   pub few : length outcomes ≤ length entries
   pub placed : Placed entries
   pub gained : AreGained m [] entries
@@ -83,3 +78,9 @@ pub record IsOnPlainWay (m : Search) (entries : List Entry) : Type 0 where
 
 abbrev pub StaysPlain : Search → List Entry → Type 0
 StaysPlain m entries = m.workers ≡ 1 → IsOnPlainWay m entries
+
+-- one round more of these shares, under a log of this length
+pub record HasRound (tokens tokens_now : List Seen) (rounds rounds_now : List Round) (log : ℕ) (hs : List Handed) : Type 0 where
+  pub round : Round
+  pub added : rounds_now ≡ rounds ++ round ∷ []
+  pub is : IsRoundOf (shown_by tokens) log hs (shown_by tokens_now) round

@@ -3,7 +3,6 @@
 
 mod joining;
 mod living;
-mod recording;
 pub mod rounds;
 mod sharing;
 mod working;

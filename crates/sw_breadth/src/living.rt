@@ -110,7 +110,7 @@ pub(crate) fn is_last<B: Candidates + Walk>(
 ) -> Result<bool, AllocError>
     requires serves { Serves (search_of task.now.protocol.now (B.template task.now.space.now) Breadth task.now.workers) (B.part_lists task.now.space.now) (B.has task.now.space.now) (B.formula_of task.now.space.now) }
     requires classes { AllByRecursion (λ e. IsClass (B.part_lists task.now.space.now) e.body) log.now }
-    requires whole { IsWholeRound (search_of task.now.protocol.now (B.template task.now.space.now) Breadth task.now.workers) before (take since log.now) log.now shares.now }
+    requires whole { IsWholeRound (search_of task.now.protocol.now (B.template task.now.space.now) Breadth task.now.workers) task.now.pool.now before (take since log.now) log.now shares.now }
     requires since { since ≤ length log.now }
     ensures last { IfOk result (λ last. last ≡ true → IsLiveRound (search_of task.now.protocol.now (B.template task.now.space.now) Breadth task.now.workers) before log.now shares.now) }
     ensures more { IfOk result (λ last. last ≡ false → since < length log.now) }

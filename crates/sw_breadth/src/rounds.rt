@@ -1,16 +1,17 @@
 //! Rounds of workers, until each part is settled by filters that are live under the whole log.
-ghost use Rattle.std.specs.Prelude.{◌≡◌, ◌≤◌, ◌+◌, ◌++◌, ◌∷◌, [], true, false, length, map, IfOk, IfErr};
+ghost use Rattle.std.specs.Prelude.{◌≡◌, ◌≤◌, true, false, length, IfOk, IfErr};
+ghost use Rattle.std.specs.List.{AllByRecursion};
 ghost use Rattle.sw_meaning.specs.Plain.{PlainList};
 ghost use Rattle.sw_filter.specs.declared.filter.Mode.TheVariants.{Breadth};
-ghost use Rattle.sw_core.specs.Gathered.{kept_of, round_of};
+ghost use Rattle.sw_pool.specs.Pools.{IsShown};
+ghost use Rattle.sw_gather.specs.Gathers.{HasTokens};
 ghost use Rattle.sw_walk.specs.Parts.{classes_of};
-ghost use Rattle.sw_hand.specs.Hands.{search_of, share_of};
+ghost use Rattle.sw_hand.specs.Hands.{search_of};
 ghost use Rattle.sw_work.specs.Works.{CanSearch, bodies_of};
-ghost use Rattle.sw_breadth.specs.Records.{HaveRun, StaysPlain, outcome_of};
+ghost use Rattle.sw_breadth.specs.Records.{HasRound, HaveRun, StaysPlain};
 ghost use Rattle.sw_breadth.specs.Rounds.{IsGathered, IsCause, IsOnTheWay, listed};
 
 use crate::living::is_last;
-use crate::recording::round_of_shares;
 use crate::working::{Ended, run};
 use sqlite_items::Items;
 use std::alloc::{AllocError, Global};
@@ -19,48 +20,47 @@ use std::thread::Threads;
 use sw_core::{Entry, Record, Round};
 use sw_edge::Gate;
 use sw_filter::{Candidates, Mode};
+use sw_gather::gather;
 use sw_hand::{Handed, Task};
 use sw_meaning::Protocol;
-use sw_pool::Pool;
+use sw_pool::{Pool, Seen};
 use sw_walk::Walk;
 use sw_work::BreadthError;
 
-/// The rounds so far: the log, their records, and the number of filters that they kept.
+/// The rounds so far: the log, their records, and tokens of the filters that they kept.
 #[derive(Drop)]
 struct Made {
     log: Vec<Entry>,
     rounds: Items<Round>,
-    filters: u32,
+    tokens: Vec<Seen>,
 }
 
 /// The rounds with one more, of these shares.
 fn with_round(
     alloc: Global,
-    log: Vec<Entry>,
+    pool: &Pool,
     rounds: Items<Round>,
-    before: u32,
-    shares: Items<Handed>,
+    tokens: Vec<Seen>,
+    log: Vec<Entry>,
+    shares: &[Handed],
 ) -> Result<Made, AllocError>
-    ensures log { IfOk result (λ made. made.log.items ≡ log.items) }
-    ensures rounds { IfOk result (λ made. made.rounds ≡ rounds ++ round_of before (length log.items) (outcome_of shares []) ∷ []) }
-    ensures filters { IfOk result (λ made. made.filters ≡ before + length (kept_of (map share_of shares))) }
+    requires shown { AllByRecursion (IsShown pool.now) tokens.items }
+    requires tokens { AllByRecursion (HasTokens pool.now) shares.now }
+    ensures log { IfOk result (λ next. next.log.items ≡ log.items) }
+    ensures round { IfOk result (λ next. HasRound tokens.items next.tokens.items rounds next.rounds (length log.items) shares.now) }
+    ensures shown { IfOk result (λ next. AllByRecursion (IsShown pool.now) next.tokens.items) }
 {
     let Ok(length) = u32::try_from(log.len()) else {
         return Err(AllocError);
     };
-    let round = round_of_shares(alloc, before, length, shares)?;
-    let Ok(kept) = u32::try_from(round.kept.len()) else {
-        return Err(AllocError);
-    };
-    let Some(filters) = before.checked_add(kept) else {
-        return Err(AllocError);
-    };
+    let mut tokens = tokens;
+    let round = gather(alloc, pool, length, &mut tokens, shares)?;
     let mut rounds = rounds;
     rounds.push(round)?;
     Ok(Made {
         log,
         rounds,
-        filters,
+        tokens,
     })
 }
 
@@ -78,24 +78,27 @@ fn next_round<H: Threads + Wait + Sync, G: Gate + Sync, B: Candidates + Walk + S
     requires few { length (B.part_lists task.now.space.now) ≤ 8589934592 }
     requires worker { task.now.worker ≡ 0 }
     requires workers { (1 ≤ task.now.workers) × (task.now.workers ≤ 64) }
-    requires run { HaveRun (search_of task.now.protocol.now (B.template task.now.space.now) Breadth task.now.workers) made.log.items made.rounds made.filters }
+    requires run { HaveRun (search_of task.now.protocol.now (B.template task.now.space.now) Breadth task.now.workers) task.now.pool.now made.log.items made.rounds made.tokens.items }
     requires plain { StaysPlain (search_of task.now.protocol.now (B.template task.now.space.now) Breadth task.now.workers) made.log.items }
     ensures last { IfOk result (λ next. next.0 ≡ true → IsGathered (search_of task.now.protocol.now (B.template task.now.space.now) Breadth task.now.workers) (record { entries = next.1.log.items; rounds = next.1.rounds })) }
     ensures last_plain { IfOk result (λ next. next.0 ≡ true → task.now.workers ≡ 1 → PlainList task.now.protocol.now (B.template task.now.space.now) (classes_of (bodies_of next.1.log.items))) }
-    ensures more { IfOk result (λ next. next.0 ≡ false → HaveRun (search_of task.now.protocol.now (B.template task.now.space.now) Breadth task.now.workers) next.1.log.items next.1.rounds next.1.filters) }
+    ensures more { IfOk result (λ next. next.0 ≡ false → HaveRun (search_of task.now.protocol.now (B.template task.now.space.now) Breadth task.now.workers) task.now.pool.now next.1.log.items next.1.rounds next.1.tokens.items) }
     ensures more_plain { IfOk result (λ next. next.0 ≡ false → StaysPlain (search_of task.now.protocol.now (B.template task.now.space.now) Breadth task.now.workers) next.1.log.items) }
     ensures cause { IfErr result (IsCause (search_of task.now.protocol.now (B.template task.now.space.now) Breadth task.now.workers) budget) }
     ensures on_the_way { IfErr result (λ e. task.now.workers ≡ 1 → IsOnTheWay (search_of task.now.protocol.now (B.template task.now.space.now) Breadth task.now.workers) e) }
 {
+    let Ok(before) = u32::try_from(made.tokens.len()) else {
+        return Err(BreadthError::Memory);
+    };
     let Made {
         log,
         rounds,
-        filters,
+        tokens,
     } = made;
     let since = log.len();
-    let Ended { log, shares } = run(rt, alloc, task, log, filters, budget, gate)?;
-    let last = is_last(alloc, task, filters, since, &log, shares.as_slice())?;
-    let made = with_round(alloc, log, rounds, filters, shares)?;
+    let Ended { log, shares } = run(rt, alloc, task, log, before, budget, gate)?;
+    let last = is_last(alloc, task, before, since, &log, shares.as_slice())?;
+    let made = with_round(alloc, task.pool, rounds, tokens, log, shares.as_slice())?;
     Ok((last, made))
 }
 
@@ -132,7 +135,7 @@ pub fn breadth<H: Threads + Wait + Sync, G: Gate + Sync, B: Candidates + Walk + 
     let mut made = Made {
         log: Vec::new(alloc),
         rounds: Items::new(alloc),
-        filters: 0,
+        tokens: Vec::new(alloc),
     };
     for _ in rt.forever() {
         let (last, next) = next_round(rt, alloc, &task, made, budget, gate)?;
@@ -140,7 +143,7 @@ pub fn breadth<H: Threads + Wait + Sync, G: Gate + Sync, B: Candidates + Walk + 
             let Made {
                 log,
                 rounds,
-                filters: _,
+                tokens: _,
             } = next;
             let entries = Items::from_vec(log);
             return Ok(Record { entries, rounds });

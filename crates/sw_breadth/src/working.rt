@@ -74,7 +74,7 @@ impl<'a, 'b, G: Gate + Sync, B: Candidates + Walk + Sync> Round<'a, 'b, G, B> {
         requires workers { vec_len reports ≡ self.now.task.now.workers }
         requires reports { AreReports (search_of self.now.task.now.protocol.now (B.template self.now.task.now.space.now) Breadth self.now.task.now.workers) self.now.shared.now.figures.budget self.now.task.now.pool.now self.now.shared.now self.now.shared.now.figures.before first.old.log.view.seen 0 reports.items }
         ensures seats { IfOk result (λ _. AreSeats self.now.shared.now first.new) }
-        ensures joined { IfOk result (HaveJoined (search_of self.now.task.now.protocol.now (B.template self.now.task.now.space.now) Breadth self.now.task.now.workers) self.now.shared.now.figures.budget first.old.log.view.seen self.now.shared.now.figures.before (vec_len reports) 0 first.new) }
+        ensures joined { IfOk result (HaveJoined (search_of self.now.task.now.protocol.now (B.template self.now.task.now.space.now) Breadth self.now.task.now.workers) self.now.task.now.pool.now self.now.shared.now.figures.budget first.old.log.view.seen self.now.shared.now.figures.before (vec_len reports) 0 first.new) }
     {
         let mut joined = Joined::Whole(Items::new(alloc));
         for report in reports {
@@ -98,7 +98,7 @@ impl<'a, 'b, G: Gate + Sync, B: Candidates + Walk + Sync> Round<'a, 'b, G, B> {
         requires seats { AreSeats self.now.shared.now first.old }
         requires first { AreFirst (length (B.part_lists self.now.task.now.space.now)) first.old.log.view.seen 0 self.now.task.now.workers first.old }
         ensures seats { IfOk result (λ _. AreSeats self.now.shared.now first.new) }
-        ensures joined { IfOk result (HaveJoined (search_of self.now.task.now.protocol.now (B.template self.now.task.now.space.now) Breadth self.now.task.now.workers) self.now.shared.now.figures.budget first.old.log.view.seen self.now.shared.now.figures.before self.now.task.now.workers 0 first.new) }
+        ensures joined { IfOk result (HaveJoined (search_of self.now.task.now.protocol.now (B.template self.now.task.now.space.now) Breadth self.now.task.now.workers) self.now.task.now.pool.now self.now.shared.now.figures.budget first.old.log.view.seen self.now.shared.now.figures.before self.now.task.now.workers 0 first.new) }
     {
         let shared = self.shared;
         let workers = self.task.workers;
@@ -128,7 +128,7 @@ impl<'a, 'b, G: Gate + Sync, B: Candidates + Walk + Sync> Round<'a, 'b, G, B> {
         requires alone { IsAloneAt (search_of self.now.task.now.protocol.now (B.template self.now.task.now.space.now) Breadth self.now.task.now.workers) first.old.claim.view first.old.log.view }
         requires own { first.old.log.view.own ≡ first.old.log.view.seen }
         ensures seats { IfOk result (λ _. AreSeats self.now.shared.now first.new) }
-        ensures joined { IfOk result (IsClosable (search_of self.now.task.now.protocol.now (B.template self.now.task.now.space.now) Breadth self.now.task.now.workers) self.now.shared.now.figures.budget first.old.log.view.seen self.now.shared.now.figures.before first.new) }
+        ensures joined { IfOk result (IsClosable (search_of self.now.task.now.protocol.now (B.template self.now.task.now.space.now) Breadth self.now.task.now.workers) self.now.task.now.pool.now self.now.shared.now.figures.budget first.old.log.view.seen self.now.shared.now.figures.before first.new) }
         ensures plain { IfOk result (IsPlainlyJoined (search_of self.now.task.now.protocol.now (B.template self.now.task.now.space.now) Breadth self.now.task.now.workers) first.old.log.view.seen first.new.log.view.seen) }
     {
         let answer = work(
@@ -251,7 +251,7 @@ fn run_alone<H: Wait, G: Gate + Sync, B: Candidates + Walk + Sync>(
     requires worker { (task.now.worker ≡ 0) × (task.now.workers ≡ 1) }
     requires placed { Placed entries.items }
     requires classes { AllByRecursion (λ e. IsClass (B.part_lists task.now.space.now) e.body) entries.items }
-    ensures whole { IfOk result (λ ended. IsWholeRound (search_of task.now.protocol.now (B.template task.now.space.now) Breadth task.now.workers) before entries.items ended.log.items ended.shares) }
+    ensures whole { IfOk result (λ ended. IsWholeRound (search_of task.now.protocol.now (B.template task.now.space.now) Breadth task.now.workers) task.now.pool.now before entries.items ended.log.items ended.shares) }
     ensures plain { IfOk result (λ ended. IsPlainRound (search_of task.now.protocol.now (B.template task.now.space.now) Breadth task.now.workers) entries.items ended.log.items) }
     ensures cause { IfErr result (IsCauseOfRound (search_of task.now.protocol.now (B.template task.now.space.now) Breadth task.now.workers) budget entries.items) }
     ensures on_its_way { IfErr result (IsOnItsWay (search_of task.now.protocol.now (B.template task.now.space.now) Breadth task.now.workers) entries.items) }
@@ -287,7 +287,7 @@ fn run_together<H: Threads + Wait + Sync, G: Gate + Sync, B: Candidates + Walk +
     requires workers { (2 ≤ task.now.workers) × (task.now.workers ≤ 64) }
     requires placed { Placed entries.items }
     requires classes { AllByRecursion (λ e. IsClass (B.part_lists task.now.space.now) e.body) entries.items }
-    ensures whole { IfOk result (λ ended. IsWholeRound (search_of task.now.protocol.now (B.template task.now.space.now) Breadth task.now.workers) before entries.items ended.log.items ended.shares) }
+    ensures whole { IfOk result (λ ended. IsWholeRound (search_of task.now.protocol.now (B.template task.now.space.now) Breadth task.now.workers) task.now.pool.now before entries.items ended.log.items ended.shares) }
     ensures plain { IfOk result (λ ended. IsPlainRound (search_of task.now.protocol.now (B.template task.now.space.now) Breadth task.now.workers) entries.items ended.log.items) }
     ensures cause { IfErr result (IsCauseOfRound (search_of task.now.protocol.now (B.template task.now.space.now) Breadth task.now.workers) budget entries.items) }
     ensures on_its_way { IfErr result (IsOnItsWay (search_of task.now.protocol.now (B.template task.now.space.now) Breadth task.now.workers) entries.items) }
@@ -325,7 +325,7 @@ pub(crate) fn run<H: Threads + Wait + Sync, G: Gate + Sync, B: Candidates + Walk
     requires workers { (1 ≤ task.now.workers) × (task.now.workers ≤ 64) }
     requires placed { Placed entries.items }
     requires classes { AllByRecursion (λ e. IsClass (B.part_lists task.now.space.now) e.body) entries.items }
-    ensures whole { IfOk result (λ ended. IsWholeRound (search_of task.now.protocol.now (B.template task.now.space.now) Breadth task.now.workers) before entries.items ended.log.items ended.shares) }
+    ensures whole { IfOk result (λ ended. IsWholeRound (search_of task.now.protocol.now (B.template task.now.space.now) Breadth task.now.workers) task.now.pool.now before entries.items ended.log.items ended.shares) }
     ensures plain { IfOk result (λ ended. IsPlainRound (search_of task.now.protocol.now (B.template task.now.space.now) Breadth task.now.workers) entries.items ended.log.items) }
     ensures cause { IfErr result (IsCauseOfRound (search_of task.now.protocol.now (B.template task.now.space.now) Breadth task.now.workers) budget entries.items) }
     ensures on_its_way { IfErr result (IsOnItsWay (search_of task.now.protocol.now (B.template task.now.space.now) Breadth task.now.workers) entries.items) }

@@ -1,5 +1,4 @@
 pub mod Crossing
 pub mod Joins
 pub mod Seeks
-pub mod Shares
 pub mod Whole

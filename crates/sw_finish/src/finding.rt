@@ -59,7 +59,7 @@ impl<'a, 'b, G: Gate + Sync, B: Candidates + Walk + Sync> Finder<'a, 'b, G, B> {
         requires object { first.old.object ≡ claims.now }
         requires new { first.old.view ≡ opened (length (B.part_lists self.now.task.now.space.now)) 0 }
         requires workers { self.now.task.now.workers ≡ 1 }
-        ensures { IfOk result (IsOver (searched B.template self.now) self.now.entries.now self.now.budget claims.now first.new) }
+        ensures { IfOk result (IsOver (searched B.template self.now) self.now.task.now.pool.now self.now.entries.now self.now.budget claims.now first.new) }
     {
         let answer = seek(
             rt,
@@ -71,7 +71,7 @@ impl<'a, 'b, G: Gate + Sync, B: Candidates + Walk + Sync> Finder<'a, 'b, G, B> {
             self.budget,
             self.gate,
         );
-        Joined::new(alloc).with(alloc, answer)
+        Joined::new(alloc).with(answer)
     }
 
     /// What a worker comes to, from a new seat.
@@ -117,13 +117,13 @@ impl<'a, 'b, G: Gate + Sync, B: Candidates + Walk + Sync> Finder<'a, 'b, G, B> {
         requires unused { IsUnused first.old.view }
         requires workers { vec_len reports ≡ self.now.task.now.workers }
         requires reports { AreReports (searched B.template self.now) self.now.entries.now self.now.budget self.now.task.now.pool.now claims.now 0 reports.items }
-        ensures { IfOk result (HaveJoined (searched B.template self.now) self.now.entries.now self.now.budget claims.now self.now.task.now.workers 0 first.new) }
+        ensures { IfOk result (HaveJoined (searched B.template self.now) self.now.task.now.pool.now self.now.entries.now self.now.budget claims.now self.now.task.now.workers 0 first.new) }
     {
         let mut joined = Joined::new(alloc);
         for report in reports {
             let Report { seat, answer } = report;
             claims.join(first, seat);
-            joined = joined.with(alloc, answer)?;
+            joined = joined.with(answer)?;
         }
         Ok(joined)
     }
@@ -139,7 +139,7 @@ impl<'a, 'b, G: Gate + Sync, B: Candidates + Walk + Sync> Finder<'a, 'b, G, B> {
         requires can { CanFind B.template B.part_lists B.has B.formula_of self.now }
         requires object { first.old.object ≡ claims.now }
         requires new { first.old.view ≡ opened (length (B.part_lists self.now.task.now.space.now)) self.now.task.now.workers }
-        ensures { IfOk result (HaveJoined (searched B.template self.now) self.now.entries.now self.now.budget claims.now self.now.task.now.workers 0 first.new) }
+        ensures { IfOk result (HaveJoined (searched B.template self.now) self.now.task.now.pool.now self.now.entries.now self.now.budget claims.now self.now.task.now.workers 0 first.new) }
     {
         let seats = split_all(alloc, claims, first)?;
         let reports = fork(
@@ -166,7 +166,7 @@ impl<'a, 'b, G: Gate + Sync, B: Candidates + Walk + Sync> Finder<'a, 'b, G, B> {
         requires can { CanFind B.template B.part_lists B.has B.formula_of self.now }
         requires object { first.old.object ≡ claims.now }
         requires new { first.old.view ≡ opened (length (B.part_lists self.now.task.now.space.now)) (others_of self.now.task.now.workers) }
-        ensures { IfOk result (IsOver (searched B.template self.now) self.now.entries.now self.now.budget claims.now first.new) }
+        ensures { IfOk result (IsOver (searched B.template self.now) self.now.task.now.pool.now self.now.entries.now self.now.budget claims.now first.new) }
     {
         if self.task.workers == 1 {
             return self.alone(rt, alloc, claims, first);

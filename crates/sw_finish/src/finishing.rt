@@ -4,19 +4,23 @@ ghost use Rattle.sw_filter.specs.declared.filter.Mode.TheVariants.{Finish as Fin
 ghost use Rattle.sw_hand.specs.Hands.{search_of};
 ghost use Rattle.sw_seek.specs.Seeking.{CanFinish, IsCause};
 ghost use Rattle.sw_finish.specs.Finished.{IsFinished};
+ghost use Rattle.std.specs.List.{AllByRecursion};
+ghost use Rattle.sw_gather.specs.Gathers.{HasTokens};
 ghost use Rattle.sw_finish.specs.Joins.{others_of};
+ghost use Rattle.sw_finish.specs.Shares.{IsOneRound};
 
 use crate::finding::Finder;
 use crate::joining::Joined;
 use sqlite_items::Items;
-use std::alloc::Global;
+use std::alloc::{AllocError, Global};
 use std::sync::Wait;
 use std::thread::Threads;
 use sw_claims::{ClaimSeat, Claims};
 use sw_core::Record;
 use sw_edge::Gate;
 use sw_filter::{Candidates, Mode};
-use sw_hand::Task;
+use sw_gather::gather;
+use sw_hand::{Handed, Task};
 use sw_logic::Formula;
 use sw_meaning::Protocol;
 use sw_pool::Pool;
@@ -44,6 +48,29 @@ fn others(workers: u32) -> u32
     if workers == 1 { 0 } else { workers }
 }
 
+/// The record of a round of these shares, in which nothing was appended to a list of this length.
+fn one_round(
+    alloc: Global,
+    pool: &Pool,
+    log: usize,
+    shares: &[Handed],
+) -> Result<Record, AllocError>
+    requires tokens { AllByRecursion (HasTokens pool.now) shares.now }
+    ensures { IfOk result (IsOneRound log shares.now) }
+{
+    let Ok(log) = u32::try_from(log) else {
+        return Err(AllocError);
+    };
+    let mut tokens = Vec::new(alloc);
+    let round = gather(alloc, pool, log, &mut tokens, shares)?;
+    let mut rounds = Items::new(alloc);
+    rounds.push(round)?;
+    Ok(Record {
+        entries: Items::new(alloc),
+        rounds,
+    })
+}
+
 impl<'a, 'b, G: Gate + Sync, B: Candidates + Walk + Sync> Finder<'a, 'b, G, B> {
     ghost use Rattle.sw_finish.specs.Joins.{CanFind, IsOver, searched};
 
@@ -57,7 +84,7 @@ impl<'a, 'b, G: Gate + Sync, B: Candidates + Walk + Sync> Finder<'a, 'b, G, B> {
         joined: Joined,
     ) -> Result<Finished, FinishError>
         requires can { CanFind B.template B.part_lists B.has B.formula_of self.now }
-        requires over { IsOver (searched B.template self.now) self.now.entries.now self.now.budget claims first joined }
+        requires over { IsOver (searched B.template self.now) self.now.task.now.pool.now self.now.entries.now self.now.budget claims first joined }
         ensures finished { IfOk result (IsFinished (searched B.template self.now) self.now.entries.now self.now.budget) }
         ensures cause { IfErr result (IsCause (searched B.template self.now) self.now.entries.now self.now.budget) }
     {
@@ -68,9 +95,14 @@ impl<'a, 'b, G: Gate + Sync, B: Candidates + Walk + Sync> Finder<'a, 'b, G, B> {
                 claims.close(first);
                 unreachable!();
             }
-            Joined::Whole(gathered) => {
+            Joined::Whole(shares) => {
                 claims.close(first);
-                let record_ = gathered.into_record(alloc, self.entries)?;
+                let record_ = one_round(
+                    alloc,
+                    self.task.pool,
+                    self.entries.len(),
+                    shares.as_slice(),
+                )?;
                 Ok(Finished::Exhausted(record_))
             }
         }

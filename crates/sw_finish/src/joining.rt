@@ -1,11 +1,9 @@
 //! How the workers are joined.
 ghost use Rattle.std.specs.Prelude.{◌≡◌, [], IfOk, Ok, Err};
 ghost use Rattle.sw_seek.specs.declared.seeking.Sought.TheVariants.{Joins, Done, Stopped as SoughtStopped};
-ghost use Rattle.sw_finish.specs.Shares.{gathered_of};
 ghost use Rattle.sw_finish.specs.declared.joining.Joined.TheVariants.{Whole};
 ghost use Rattle.sw_finish.specs.Joins.{with_answer};
 
-use crate::gathering::Gathered;
 use sqlite_items::Items;
 use std::alloc::{AllocError, Global};
 use sw_claims::ClaimSeat;
@@ -32,15 +30,15 @@ pub(crate) enum Joined {
     },
     Failed(FinishError),
     Stopped,
-    Whole(Gathered),
+    Whole(Items<Handed>),
 }
 
 impl Joined {
     /// What no workers come to.
     pub(crate) fn new(alloc: Global) -> Joined
-        ensures { result ≡ Whole (gathered_of []) }
+        ensures { result ≡ Whole [] }
     {
-        Joined::Whole(Gathered::new(alloc))
+        Joined::Whole(Items::new(alloc))
     }
 
     fn with_found(self, body: Body, start: Refutation, steps: Items<Refutation>) -> Joined
@@ -71,30 +69,26 @@ impl Joined {
         }
     }
 
-    fn with_share(self, alloc: Global, share: Handed) -> Result<Joined, AllocError>
+    fn with_share(self, share: Handed) -> Result<Joined, AllocError>
         ensures { IfOk result (λ j. j ≡ with_answer self (Ok (Done share))) }
     {
         match self {
-            Joined::Whole(gathered) => {
-                let mut gathered = gathered;
-                gathered.add(alloc, share)?;
-                Ok(Joined::Whole(gathered))
+            Joined::Whole(shares) => {
+                let mut shares = shares;
+                shares.push(share)?;
+                Ok(Joined::Whole(shares))
             }
             decided => Ok(decided),
         }
     }
 
     /// Takes one answer more.
-    pub(crate) fn with(
-        self,
-        alloc: Global,
-        answer: Result<Sought, FinishError>,
-    ) -> Result<Joined, AllocError>
+    pub(crate) fn with(self, answer: Result<Sought, FinishError>) -> Result<Joined, AllocError>
         ensures { IfOk result (λ j. j ≡ with_answer self answer) }
     {
         match answer {
             Ok(Sought::Joins { body, start, steps }) => Ok(self.with_found(body, start, steps)),
-            Ok(Sought::Done(share)) => self.with_share(alloc, share),
+            Ok(Sought::Done(share)) => self.with_share(share),
             Ok(Sought::Stopped(reason)) => Ok(self.with_stop(reason)),
             Err(error) => Ok(self.with_error(error)),
         }

@@ -3,7 +3,6 @@
 
 mod finding;
 pub mod finishing;
-mod gathering;
 mod joining;
 
 pub use finishing::{Finished, finish};

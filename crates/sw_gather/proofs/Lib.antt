@@ -1,3 +1,4 @@
 pub mod Moving
 pub mod Chosen
 pub mod Merged
+pub mod Shares

@@ -20,7 +20,7 @@ returns-clause-whole g c =
     let entries = c.args.entries.items in
     let listed = subst (λ ps. AllByRecursion (λ (e : Entry). IsClass ps e.body) entries) c.requires.can.are_parts c.requires.classes in
     let seen : c.in_ok-shared.first.log.view.seen ≡ entries = ap (λ (v : LogView). v.seen) c.in_ok-shared.ensures.log in
-    closed_whole m c.args.budget c.args.before entries c.together.new.first c.in_ok-joined.joined (omega (arith, c.requires.workers.0)) c.requires.placed listed (subst (λ (f : Figures). IsClosable m f.budget entries f.before c.together.new.first c.in_ok-joined.joined) c.in_ok-shared.ensures.figures (subst (λ es. IsClosable m c.in_ok-shared.shared.figures.budget es c.in_ok-shared.shared.figures.before c.together.new.first c.in_ok-joined.joined) seen (closable m c.in_ok-shared.shared.figures.budget t.pool.now c.in_ok-shared.first.log.view.seen c.in_ok-shared.shared.figures.before c.together.new.first c.in_ok-joined.joined c.in_ok-joined.ensures.joined))) c.close.result c.close.ensures.whole
+    closed_whole m t.pool.now c.args.budget c.args.before entries c.together.new.first c.in_ok-joined.joined (omega (arith, c.requires.workers.0)) c.requires.placed listed (subst (λ (f : Figures). IsClosable m t.pool.now f.budget entries f.before c.together.new.first c.in_ok-joined.joined) c.in_ok-shared.ensures.figures (subst (λ es. IsClosable m t.pool.now c.in_ok-shared.shared.figures.budget es c.in_ok-shared.shared.figures.before c.together.new.first c.in_ok-joined.joined) seen (closable m c.in_ok-shared.shared.figures.budget t.pool.now c.in_ok-shared.first.log.view.seen c.in_ok-shared.shared.figures.before c.together.new.first c.in_ok-joined.joined c.in_ok-joined.ensures.joined))) c.close.result c.close.ensures.whole
 
 pub returns-clause-cause : goal.returns-clause-cause
 returns-clause-cause g c =
@@ -29,4 +29,4 @@ returns-clause-cause g c =
     let entries = c.args.entries.items in
     let listed = subst (λ ps. AllByRecursion (λ (e : Entry). IsClass ps e.body) entries) c.requires.can.are_parts c.requires.classes in
     let seen : c.in_ok-shared.first.log.view.seen ≡ entries = ap (λ (v : LogView). v.seen) c.in_ok-shared.ensures.log in
-    closed_cause m c.args.budget c.args.before entries c.together.new.first c.in_ok-joined.joined c.requires.placed listed (subst (λ (f : Figures). IsClosable m f.budget entries f.before c.together.new.first c.in_ok-joined.joined) c.in_ok-shared.ensures.figures (subst (λ es. IsClosable m c.in_ok-shared.shared.figures.budget es c.in_ok-shared.shared.figures.before c.together.new.first c.in_ok-joined.joined) seen (closable m c.in_ok-shared.shared.figures.budget t.pool.now c.in_ok-shared.first.log.view.seen c.in_ok-shared.shared.figures.before c.together.new.first c.in_ok-joined.joined c.in_ok-joined.ensures.joined))) c.close.result c.close.ensures.failed
+    closed_cause m t.pool.now c.args.budget c.args.before entries c.together.new.first c.in_ok-joined.joined c.requires.placed listed (subst (λ (f : Figures). IsClosable m t.pool.now f.budget entries f.before c.together.new.first c.in_ok-joined.joined) c.in_ok-shared.ensures.figures (subst (λ es. IsClosable m t.pool.now c.in_ok-shared.shared.figures.budget es c.in_ok-shared.shared.figures.before c.together.new.first c.in_ok-joined.joined) seen (closable m c.in_ok-shared.shared.figures.budget t.pool.now c.in_ok-shared.first.log.view.seen c.in_ok-shared.shared.figures.before c.together.new.first c.in_ok-joined.joined c.in_ok-joined.ensures.joined))) c.close.result c.close.ensures.failed

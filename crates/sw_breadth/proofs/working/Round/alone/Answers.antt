@@ -17,7 +17,7 @@ returns-in_ok-push-in-Ok-Done-clause-joined g c =
     let worker = c.requires.worker.0 in
     let handed = c.in-Ok-Done.handed in
     let did = rw c.in-Ok-Done.field-0-is at c.in-Ok-Done.ensures.worked in
-    subst (λ l. IsClosable m s.shared.now.figures.budget c.args.first.now.log.view.seen s.shared.now.figures.before w (came.Whole l)) (sym (c.in_ok-push-in-Ok-Done.ensures.ok ∙ ap (λ l. l ++ handed ∷ []) c.new-shares.ensures))
+    subst (λ l. IsClosable m s.task.now.pool.now s.shared.now.figures.budget c.args.first.now.log.view.seen s.shared.now.figures.before w (came.Whole l)) (sym (c.in_ok-push-in-Ok-Done.ensures.ok ∙ ap (λ l. l ++ handed ∷ []) c.new-shares.ensures))
     (lone_whole m s.shared.now.figures.budget s.task.now.pool.now s.shared.now.figures.before c.args.first.now w c.requires.worker.1 c.requires.alone c.requires.own (subst (λ n. Gained m n c.args.first.now.log.view w.log.view) worker c.work-answer.ensures.gained) handed
     (subst (λ n. IsWorked m s.task.now.pool.now n s.shared.now.figures.before c.args.first.now.claim.view w.claim.view c.args.first.now.log.view w.log.view (worked.Done handed)) worker did))
 
