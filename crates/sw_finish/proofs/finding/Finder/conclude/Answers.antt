@@ -6,12 +6,12 @@ use Rattle.sw_finish.specs.Joins.{AreJoined, IsLast, searched}
 use Rattle.sw_finish.proofs.Whole.{have_tokens, whole_is}
 use Rattle.sw_finish.proofs.finding.Finder.conclude.Goals as goal
 
-pub one_round-requires-clause-tokens : goal.one_round-requires-clause-tokens
-one_round-requires-clause-tokens g c κs within =
+pub one_round-requires : goal.one_round-requires
+one_round-requires g c =
     let s = c.args.self.now in
     let m = searched g.B.Walk.template s in
     let a = subst (AreJoined m s.task.now.pool.now s.entries.now s.budget m.workers c.args.first.view) c.in-Whole.is c.requires.over.answers in
-    subst (AllByRecursion (HasTokens s.task.now.pool.now)) (sym c.as_slice.ensures) (have_tokens m s.task.now.pool.now s.entries.now c.in-Whole.shares a.each)
+    record { tokens = subst (AllByRecursion (HasTokens s.task.now.pool.now)) (sym c.as_slice.ensures) (have_tokens m s.task.now.pool.now s.entries.now c.in-Whole.shares a.each) }
 
 pub returns-in_ok-record_-in-Whole-clause-finished : goal.returns-in_ok-record_-in-Whole-clause-finished
 returns-in_ok-record_-in-Whole-clause-finished g c =
