@@ -1,5 +1,5 @@
 -- What a view shows after filters were found, and under a longer list.
-use Rattle.std.proofs.Common.{◌≡◌, ◌<◌, ◌≤◌, ◌^◌, ◌∙◌, sym, subst, ap, refl, arith, ℕ, Bool, Result, Ok, Err, IfOk, OnOk, List, [], ◌∷◌, ◌++◌, map, length, take, drop, append-nil}
+use Rattle.std.proofs.Common.{◌≡◌, ◌<◌, ◌≤◌, ◌^◌, ◌∙◌, sym, subst, ap, refl, arith, ℕ, Bool, List, [], ◌∷◌, ◌++◌, map, length, take, drop, append-nil}
 use Rattle.std.specs.List.{AllByRecursion, AllZip}
 use Rattle.std.proofs.lemmas.List.{length-map, length-take-le, take-append-drop}
 use Rattle.sw_lists.proofs.Each.{each-append, each-map, each-unmap}
@@ -172,12 +172,3 @@ hand_later m pool worker list from shown shown' kept tokens used used' h known l
       marks = long ∙ h.marks;
       live = subst (λ places. AllByRecursion (IsLive m.protocol m.mode list) (filters_at (filters_of kept) places)) (sym none) tt;
     }
-
--- what holds anyhow holds where the answer is Ok
-pub if_ok : {A E : Type 0} (P : Type 0) (r : Result A E) → P → IfOk r (λ _. P)
-if_ok P (Ok x) h = h
-if_ok P (Err e) h = tt
-
-pub then_ok : {A E : Type 0} (P Q : Type 0) (r : Result A E) → OnOk r P → (P → Q) → IfOk r (λ _. Q)
-then_ok P Q (Ok x) h f = f h
-then_ok P Q (Err e) h f = tt

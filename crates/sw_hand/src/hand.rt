@@ -78,13 +78,14 @@ impl<'a, B: Candidates + Walk> Task<'a, B> {
         }
     }
 
-    /// Adds the filters of the pool that were not found yet, marked under the formulas.
+    /// Adds the filters of the pool that were not found yet, marked under the formulas; whether there
+    /// were some.
     pub fn refresh(
         &self,
         alloc: Global,
         hand: &mut Hand<'a, B>,
         formulas: &[Formula],
-    ) -> Result<(), AllocError>
+    ) -> Result<bool, AllocError>
         requires serves { Serves (search_of self.now.protocol.now (B.template self.now.space.now) self.now.mode self.now.workers) (B.part_lists self.now.space.now) (B.has self.now.space.now) (B.formula_of self.now.space.now) }
         requires narrow { AreNarrow formulas.now }
         requires mine { IsView (search_of self.now.protocol.now (B.template self.now.space.now) self.now.mode self.now.workers) self.now.space.now formulas.now hand.old.mine.protocol.now hand.old.mine.space.now hand.old.mine.mode hand.old.mine.advanced hand.old.mine.shown.items }
@@ -97,15 +98,18 @@ impl<'a, B: Candidates + Walk> Task<'a, B> {
         ensures found { IfOk result (λ _. AreTokens self.now.pool.now hand.new.found.items hand.new.others.shown.items) }
         ensures kept { IfOk result (λ _. hand.new.kept ≡ hand.old.kept) }
         ensures used { IfOk result (λ _. hand.new.used.items ≡ hand.old.used.items) }
+        ensures stays { hand.new.mine ≡ hand.old.mine }
+        ensures none { IfOk result (λ some. some ≡ false → hand.new.others.shown.items ≡ hand.old.others.shown.items) }
     {
         let found = self
             .pool
             .refresh(alloc, self.protocol, &mut hand.cursor, &mut hand.others)?;
         if found.is_empty() {
-            return Ok(());
+            return Ok(false);
         }
         hand.others.advance(formulas);
-        push_all(&mut hand.found, found)
+        push_all(&mut hand.found, found)?;
+        Ok(true)
     }
 
     /// Marks the filters under a list that begins with the one before, of which `from` is the length; none
@@ -154,7 +158,8 @@ impl<'a, B: Candidates + Walk> Task<'a, B> {
     }
 
     /// Whether a live filter refutes the class: it is used then, and kept for this class if it was not kept
-    /// yet. Of the kept ones the first such is taken, and only then one that was found.
+    /// yet. Of the kept ones the first such is taken, and only then one that was found. Where none of these
+    /// refutes it, those that the pool has gained are found, and sifted too.
     pub fn sift(
         &self,
         alloc: Global,
@@ -164,6 +169,7 @@ impl<'a, B: Candidates + Walk> Task<'a, B> {
     ) -> Result<bool, AllocError>
         requires serves { Serves (search_of self.now.protocol.now (B.template self.now.space.now) self.now.mode self.now.workers) (B.part_lists self.now.space.now) (B.has self.now.space.now) (B.formula_of self.now.space.now) }
         requires class { IsClass (B.part_lists self.now.space.now) body.now }
+        requires narrow { AreNarrow formulas.now }
         requires mine { IsView (search_of self.now.protocol.now (B.template self.now.space.now) self.now.mode self.now.workers) self.now.space.now formulas.now hand.old.mine.protocol.now hand.old.mine.space.now hand.old.mine.mode hand.old.mine.advanced hand.old.mine.shown.items }
         requires others { IsView (search_of self.now.protocol.now (B.template self.now.space.now) self.now.mode self.now.workers) self.now.space.now formulas.now hand.old.others.protocol.now hand.old.others.space.now hand.old.others.mode hand.old.others.advanced hand.old.others.shown.items }
         requires hand { IsHand (search_of self.now.protocol.now (B.template self.now.space.now) self.now.mode self.now.workers) self.now.pool.now self.now.worker formulas.now hand.old.mine.shown.items hand.old.kept hand.old.tokens.items hand.old.used.items }
@@ -180,13 +186,13 @@ impl<'a, B: Candidates + Walk> Task<'a, B> {
             self.use_kept(hand, formulas, body, place);
             return Ok(true);
         }
-        let Some(place) = self.first_in(&hand.others, formulas, body) else {
+        if self.sift_found(alloc, hand, formulas, body)? {
+            return Ok(true);
+        }
+        if !self.refresh(alloc, hand, formulas)? {
             return Ok(false);
-        };
-        let shown = hand.others.shown[place as usize];
-        let token = hand.found[place as usize].again();
-        self.hold(alloc, hand, formulas, body, shown, token)?;
-        Ok(true)
+        }
+        self.sift_found(alloc, hand, formulas, body)
     }
 
     /// Publishes a filter that rejects a class which none in the hand rejects, and keeps it as used.
@@ -235,6 +241,40 @@ impl<'a, B: Candidates + Walk> Task<'a, B> {
         ensures { FirstRejects self.now.protocol.now (B.formula_of self.now.space.now body.now) view.now.shown.items result }
     {
         view.sift(body)
+    }
+
+    /// Whether one of the filters that were found refutes a class that no kept one does. The first such is
+    /// kept then, as used.
+    fn sift_found(
+        &self,
+        alloc: Global,
+        hand: &mut Hand<'a, B>,
+        formulas: &[Formula],
+        body: &Body,
+    ) -> Result<bool, AllocError>
+        requires serves { Serves (search_of self.now.protocol.now (B.template self.now.space.now) self.now.mode self.now.workers) (B.part_lists self.now.space.now) (B.has self.now.space.now) (B.formula_of self.now.space.now) }
+        requires class { IsClass (B.part_lists self.now.space.now) body.now }
+        requires mine { IsView (search_of self.now.protocol.now (B.template self.now.space.now) self.now.mode self.now.workers) self.now.space.now formulas.now hand.old.mine.protocol.now hand.old.mine.space.now hand.old.mine.mode hand.old.mine.advanced hand.old.mine.shown.items }
+        requires others { IsView (search_of self.now.protocol.now (B.template self.now.space.now) self.now.mode self.now.workers) self.now.space.now formulas.now hand.old.others.protocol.now hand.old.others.space.now hand.old.others.mode hand.old.others.advanced hand.old.others.shown.items }
+        requires hand { IsHand (search_of self.now.protocol.now (B.template self.now.space.now) self.now.mode self.now.workers) self.now.pool.now self.now.worker formulas.now hand.old.mine.shown.items hand.old.kept hand.old.tokens.items hand.old.used.items }
+        requires found { AreTokens self.now.pool.now hand.old.found.items hand.old.others.shown.items }
+        requires passed { FirstRejects self.now.protocol.now (B.formula_of self.now.space.now body.now) hand.old.mine.shown.items None }
+        ensures mine { IfOk result (λ _. IsView (search_of self.now.protocol.now (B.template self.now.space.now) self.now.mode self.now.workers) self.now.space.now formulas.now hand.new.mine.protocol.now hand.new.mine.space.now hand.new.mine.mode hand.new.mine.advanced hand.new.mine.shown.items) }
+        ensures others { IfOk result (λ _. IsView (search_of self.now.protocol.now (B.template self.now.space.now) self.now.mode self.now.workers) self.now.space.now formulas.now hand.new.others.protocol.now hand.new.others.space.now hand.new.others.mode hand.new.others.advanced hand.new.others.shown.items) }
+        ensures hand { IfOk result (λ _. IsHand (search_of self.now.protocol.now (B.template self.now.space.now) self.now.mode self.now.workers) self.now.pool.now self.now.worker formulas.now hand.new.mine.shown.items hand.new.kept hand.new.tokens.items hand.new.used.items) }
+        ensures found { IfOk result (λ _. AreTokens self.now.pool.now hand.new.found.items hand.new.others.shown.items) }
+        ensures grows { IfOk result (λ _. Grows hand.old.kept hand.old.used.items hand.new.kept hand.new.used.items) }
+        ensures good { IfOk result (λ rejected. rejected ≡ true → IsGoodBy (search_of self.now.protocol.now (B.template self.now.space.now) self.now.mode self.now.workers) formulas.now hand.new.kept hand.new.used.items body.now.cubes) }
+        ensures stays { IfOk result (λ rejected. rejected ≡ false → hand.new ≡ hand.old) }
+        ensures passed { IfOk result (λ rejected. rejected ≡ false → FirstRejects self.now.protocol.now (B.formula_of self.now.space.now body.now) hand.new.others.shown.items None) }
+    {
+        let Some(place) = self.first_in(&hand.others, formulas, body) else {
+            return Ok(false);
+        };
+        let shown = hand.others.shown[place as usize];
+        let token = hand.found[place as usize].again();
+        self.hold(alloc, hand, formulas, body, shown, token)?;
+        Ok(true)
     }
 
     /// Marks a kept filter that rejects the class as used.

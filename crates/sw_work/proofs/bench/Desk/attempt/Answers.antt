@@ -1,12 +1,16 @@
-use Rattle.std.proofs.Common.{List, refl, subst}
+use Rattle.std.proofs.Common.{List, refl, subst, sym}
 use Rattle.sw_logic.specs.declared.syntax.Formula.{Formula}
 use Rattle.sw_template.specs.Bodies.{Class}
+use Rattle.sw_filter.specs.Filters.{AreNarrow}
 use Rattle.sw_core.specs.Machine.{Search}
 use Rattle.sw_hand.specs.Hands.{IsGoodBy}
 use Rattle.sw_work.specs.declared.considering.Tried.{Tried}
 use Rattle.sw_work.specs.Steps.{IsTried, KeepsMore, searched}
 use Rattle.sw_work.proofs.Asked.{holds_at, if_ok, keeps_of, keeps_on, tried_on}
 use Rattle.sw_work.proofs.bench.Desk.attempt.Goals as goal
+
+pub sift-requires-clause-narrow : goal.sift-requires-clause-narrow
+sift-requires-clause-narrow g c = subst AreNarrow (sym c.as_slice.ensures) c.requires.stands.fits.narrow
 
 pub returns-then-branch-clause-tried : goal.returns-then-branch-clause-tried
 returns-then-branch-clause-tried g c =
