@@ -5,6 +5,6 @@ use Rattle.sw_breadth.proofs.rounds.breadth.Given as goal
 
 abbrev pub invariant-loop : goal.invariant-loop
 invariant-loop g l = record {
-  run : HaveRun (search_of l.fn.protocol (g.B.Walk.template l.fn.space) Breadth l.fn.workers) l.pool l.made.log.items l.made.rounds l.made.tokens.items;
+  run : HaveRun (search_of l.fn.protocol (g.B.Walk.template l.fn.space) Breadth l.fn.workers) l.task.pool.now l.made.log.items l.made.rounds l.made.tokens.items;
   plain : StaysPlain (search_of l.fn.protocol (g.B.Walk.template l.fn.space) Breadth l.fn.workers) l.made.log.items;
 }

@@ -36,22 +36,22 @@ pub is_last-requires-clause-classes : goal.is_last-requires-clause-classes
 is_last-requires-clause-classes g c =
     let t = c.args.task.now in
     let m = search_of t.protocol.now (g.B.Walk.template t.space.now) Breadth t.workers in
-    let size : c.in-Ok.before ≡ length c.args.made.tokens.items = omega (arith, c.in-Ok.ensures, c.len.ensures, c.args.made.tokens.ok.0) in
+    let count : c.in-Ok.before ≡ length c.args.made.tokens.items = omega (arith, c.in-Ok.ensures, c.len.ensures, c.args.made.tokens.ok.0) in
     let whole : IsWholeRound m t.pool.now c.in-Ok.before c.args.made.log.items c.in_ok-log.field-0.log.items c.in_ok-log.field-0.shares = search rules in
     subst (λ l. AllByRecursion (λ (e : Entry). IsClass (g.B.Walk.part_lists t.space.now) e.body) l) (sym c.deref.ensures.value)
     (subst (λ ps. AllByRecursion (λ (e : Entry). IsClass ps e.body) c.in_ok-log.field-0.log.items) (sym c.requires.can.are_parts)
-    (listed_log m t.pool.now c.args.made.log.items c.in_ok-log.field-0.log.items c.args.made.rounds c.args.made.tokens.items c.in-Ok.before c.in_ok-log.field-0.shares size c.requires.run whole))
+    (listed_log m t.pool.now c.args.made.log.items c.in_ok-log.field-0.log.items c.args.made.rounds c.args.made.tokens.items c.in-Ok.before c.in_ok-log.field-0.shares count c.requires.run whole))
 
 pub with_round-requires-clause-tokens : goal.with_round-requires-clause-tokens
-with_round-requires-clause-tokens g c κs within =
+with_round-requires-clause-tokens g c =
     let t = c.args.task.now in
     let m = search_of t.protocol.now (g.B.Walk.template t.space.now) Breadth t.workers in
     let log = c.in_ok-log.field-0.log.items in
     let hs = c.in_ok-log.field-0.shares in
-    let size : c.in-Ok.before ≡ length c.args.made.tokens.items = omega (arith, c.in-Ok.ensures, c.len.ensures, c.args.made.tokens.ok.0) in
+    let count : c.in-Ok.before ≡ length c.args.made.tokens.items = omega (arith, c.in-Ok.ensures, c.len.ensures, c.args.made.tokens.ok.0) in
     let whole : IsWholeRound m t.pool.now c.in-Ok.before c.args.made.log.items log hs = search rules in
     subst (AllByRecursion (HasTokens t.pool.now)) (sym c.as_slice-2.ensures)
-    (have_tokens m t.pool.now c.args.made.log.items log c.args.made.rounds c.args.made.tokens.items c.in-Ok.before hs size c.requires.run whole)
+    (have_tokens m t.pool.now c.args.made.log.items log c.args.made.rounds c.args.made.tokens.items c.in-Ok.before hs count c.requires.run whole)
 
 pub returns-clause-last : goal.returns-clause-last
 returns-clause-last g c = λ e.
@@ -60,7 +60,7 @@ returns-clause-last g c = λ e.
     let run = c.args.made in
     let log = c.in_ok-log.field-0.log.items in
     let hs = c.in_ok-log.field-0.shares in
-    let size : c.in-Ok.before ≡ length c.args.made.tokens.items = omega (arith, c.in-Ok.ensures, c.len.ensures, c.args.made.tokens.ok.0) in
+    let count : c.in-Ok.before ≡ length c.args.made.tokens.items = omega (arith, c.in-Ok.ensures, c.len.ensures, c.args.made.tokens.ok.0) in
     let whole : IsWholeRound m t.pool.now c.in-Ok.before run.log.items log hs = search rules in
     let made = c.in_ok-made.made in
     let log_is : made.log.items ≡ log = search rules in
@@ -68,7 +68,7 @@ returns-clause-last g c = λ e.
     let shares_are : c.as_slice-2.result.now ≡ hs = search rules in
     let round : HasRound run.tokens.items made.tokens.items run.rounds made.rounds (length log) hs = subst (HasRound run.tokens.items made.tokens.items run.rounds made.rounds (length log)) shares_are c.in_ok-made.ensures.round in
     gathered_as m (record { entries = made.log.items; rounds = made.rounds }) log made.rounds log_is refl
-    (is_gathered m t.pool.now run.log.items log run.rounds run.tokens.items c.in-Ok.before hs size c.requires.run whole made.rounds made.tokens.items round live)
+    (is_gathered m t.pool.now run.log.items log run.rounds run.tokens.items c.in-Ok.before hs count c.requires.run whole made.rounds made.tokens.items round live)
 
 pub returns-clause-last_plain : goal.returns-clause-last_plain
 returns-clause-last_plain g c = λ e alone.
@@ -77,14 +77,14 @@ returns-clause-last_plain g c = λ e alone.
     let run = c.args.made in
     let log = c.in_ok-log.field-0.log.items in
     let hs = c.in_ok-log.field-0.shares in
-    let size : c.in-Ok.before ≡ length c.args.made.tokens.items = omega (arith, c.in-Ok.ensures, c.len.ensures, c.args.made.tokens.ok.0) in
+    let count : c.in-Ok.before ≡ length c.args.made.tokens.items = omega (arith, c.in-Ok.ensures, c.len.ensures, c.args.made.tokens.ok.0) in
     let whole : IsWholeRound m t.pool.now c.in-Ok.before run.log.items log hs = search rules in
     let made = c.in_ok-made.made in
     let log_is : made.log.items ≡ log = search rules in
     let live : IsLiveRound m c.in-Ok.before log hs = subst (λ l. IsLiveRound m c.in-Ok.before l hs) c.deref.ensures.value (subst (λ x. IsLiveRound m c.in-Ok.before c.deref.result.now x) c.as_slice.ensures (c.in_ok-last.ensures.last e)) in
     let plain : IsPlainRound m run.log.items log = search rules in
     subst (λ l. PlainList t.protocol.now (g.B.Walk.template t.space.now) (classes_of (bodies_of l))) (sym log_is)
-    (plain_last t.protocol.now (g.B.Walk.template t.space.now) t.workers t.pool.now c.in-Ok.before run.log.items log run.rounds run.tokens.items hs size c.requires.run whole live c.requires.plain plain alone)
+    (plain_last t.protocol.now (g.B.Walk.template t.space.now) t.workers t.pool.now c.in-Ok.before run.log.items log run.rounds run.tokens.items hs count c.requires.run whole live c.requires.plain plain alone)
 
 pub returns-clause-more : goal.returns-clause-more
 returns-clause-more g c = λ e.
@@ -93,7 +93,7 @@ returns-clause-more g c = λ e.
     let run = c.args.made in
     let log = c.in_ok-log.field-0.log.items in
     let hs = c.in_ok-log.field-0.shares in
-    let size : c.in-Ok.before ≡ length c.args.made.tokens.items = omega (arith, c.in-Ok.ensures, c.len.ensures, c.args.made.tokens.ok.0) in
+    let count : c.in-Ok.before ≡ length c.args.made.tokens.items = omega (arith, c.in-Ok.ensures, c.len.ensures, c.args.made.tokens.ok.0) in
     let whole : IsWholeRound m t.pool.now c.in-Ok.before run.log.items log hs = search rules in
     let made = c.in_ok-made.made in
     let log_is : made.log.items ≡ log = search rules in
@@ -103,7 +103,7 @@ returns-clause-more g c = λ e.
     let shares_are : c.as_slice-2.result.now ≡ hs = search rules in
     let round : HasRound run.tokens.items made.tokens.items run.rounds made.rounds (length log) hs = subst (HasRound run.tokens.items made.tokens.items run.rounds made.rounds (length log)) shares_are c.in_ok-made.ensures.round in
     run_as m t.pool.now made.log.items log made.rounds made.rounds made.tokens.items made.tokens.items log_is refl refl
-    (have_run_more m t.pool.now run.log.items log run.rounds run.tokens.items c.in-Ok.before hs size c.requires.run whole made.rounds made.tokens.items round c.in_ok-made.ensures.shown long)
+    (have_run_more m t.pool.now run.log.items log run.rounds run.tokens.items c.in-Ok.before hs count c.requires.run whole made.rounds made.tokens.items round c.in_ok-made.ensures.shown long)
 
 pub returns-clause-more_plain : goal.returns-clause-more_plain
 returns-clause-more_plain g c = λ e.
@@ -112,7 +112,7 @@ returns-clause-more_plain g c = λ e.
     let run = c.args.made in
     let log = c.in_ok-log.field-0.log.items in
     let hs = c.in_ok-log.field-0.shares in
-    let size : c.in-Ok.before ≡ length c.args.made.tokens.items = omega (arith, c.in-Ok.ensures, c.len.ensures, c.args.made.tokens.ok.0) in
+    let count : c.in-Ok.before ≡ length c.args.made.tokens.items = omega (arith, c.in-Ok.ensures, c.len.ensures, c.args.made.tokens.ok.0) in
     let whole : IsWholeRound m t.pool.now c.in-Ok.before run.log.items log hs = search rules in
     let made = c.in_ok-made.made in
     let log_is : made.log.items ≡ log = search rules in
