@@ -17,7 +17,7 @@ use Rattle.sw_core.specs.declared.steps.Step.TheVariants.{Begin, Draw, Look, App
 use Rattle.sw_core.specs.declared.steps.End.TheVariants as end
 use Rattle.sw_core.specs.Machine.{Search, Board, formula_in, start, after, run}
 use Rattle.sw_core.specs.Records.{times, draws_at, draws_of, entry_steps, publish_step, settle_steps, round_steps, rounds_steps, steps_of}
-use Rattle.sw_core.specs.Gathered.{Outcome, formulas_of, kept_of, rounds_of, round_of, record_of}
+use Rattle.sw_core.specs.Gathered.{Outcome, formulas_of, rounds_of, round_of, record_of}
 
 -- the entries of rounds, one after the other
 abbrev pub entries_of : List Outcome → List Entry
@@ -97,28 +97,27 @@ module _ (m : Search) where
       ∙ (ap (λ l. flat_map adds looks ++ l) (flat_map-append adds publishes settles ∙ (ap (λ l. l ++ flat_map adds settles) (quiet_publish r.kept) ∙ quiet_settle r.settled))
       ∙ (append-nil (flat_map adds looks) ∙ entries_log es))))
 
-  rounds_log : (count at : ℕ) (os : List Outcome) → flat_map adds (rounds_steps at (entries_of os) (rounds_of count at os)) ≡ formulas_of m (entries_of os)
-  rounds_log count at [] = refl
-  rounds_log count at (o ∷ os) =
+  rounds_log : (at : ℕ) (os : List Outcome) → flat_map adds (rounds_steps at (entries_of os) (rounds_of at os)) ≡ formulas_of m (entries_of os)
+  rounds_log at [] = refl
+  rounds_log at (o ∷ os) =
       let to = at + length o.entries in
       let es = o.entries ++ entries_of os in
-      let more = count + length (kept_of o.shares) in
       let size : to - at ≡ length o.entries = omega arith in
       let first : take (to - at) es ≡ o.entries = ap (λ n. take n es) size ∙ take-append_seam o.entries (entries_of os) in
       let others : drop (to - at) es ≡ entries_of os = ap (λ n. drop n es) size ∙ drop-append_seam o.entries (entries_of os) in
-      flat_map-append adds (round_steps (take (to - at) es) (round_of count to o)) (rounds_steps to (drop (to - at) es) (rounds_of more to os))
-      ∙ (ap (λ l. l ++ flat_map adds (rounds_steps to (drop (to - at) es) (rounds_of more to os))) (round_log (take (to - at) es) (round_of count to o) ∙ ap (formulas_of m) first)
-      ∙ (ap (λ l. formulas_of m o.entries ++ flat_map adds (rounds_steps to l (rounds_of more to os))) others
-      ∙ (ap (λ l. formulas_of m o.entries ++ l) (rounds_log more to os)
+      flat_map-append adds (round_steps (take (to - at) es) (round_of to o)) (rounds_steps to (drop (to - at) es) (rounds_of to os))
+      ∙ (ap (λ l. l ++ flat_map adds (rounds_steps to (drop (to - at) es) (rounds_of to os))) (round_log (take (to - at) es) (round_of to o) ∙ ap (formulas_of m) first)
+      ∙ (ap (λ l. formulas_of m o.entries ++ flat_map adds (rounds_steps to l (rounds_of to os))) others
+      ∙ (ap (λ l. formulas_of m o.entries ++ l) (rounds_log to os)
       ∙ sym (map-append (λ (e : Entry). formula_in m e.body.cubes) o.entries (entries_of os)))))
 
   -- the formulas of the entries, one after the other
   pub record_log : (os : List Outcome) → (run m (start m []) (steps_of (record_of 0 os) 0)).log ≡ formulas_of m (entries_of os)
   record_log os =
-      let steps = rounds_steps 0 (entries_of os) (rounds_of 0 0 os) in
-      run_log (start m []) (steps ++ Close ∷ []) ∙ (flat_map-append adds steps (Close ∷ []) ∙ (append-nil (flat_map adds steps) ∙ rounds_log 0 0 os))
+      let steps = rounds_steps 0 (entries_of os) (rounds_of 0 os) in
+      run_log (start m []) (steps ++ Close ∷ []) ∙ (flat_map-append adds steps (Close ∷ []) ∙ (append-nil (flat_map adds steps) ∙ rounds_log 0 os))
 
   pub record_ends : (os : List Outcome) → (run m (start m []) (steps_of (record_of 0 os) 0)).end ≡ end.Closed
   record_ends os =
-      let steps = rounds_steps 0 (entries_of os) (rounds_of 0 0 os) in
+      let steps = rounds_steps 0 (entries_of os) (rounds_of 0 os) in
       ap (λ (s : Board). s.end) (run-append (start m []) steps (Close ∷ []))
