@@ -5,7 +5,7 @@ ghost use Rattle.sw_search.specs.Spaces.{CanSearch};
 
 use crate::gates::Holder;
 use crate::inputs::{OFF, literals_of, protocol_of};
-use crate::records::{is_one_round, kept_count};
+use crate::records::{are_drawn, only_round};
 use std::alloc::Global;
 use std::sync::Wait;
 use std::test::Fail;
@@ -64,8 +64,11 @@ fn two_workers_list_side_by_side(rt: HostRuntime) -> Result<(), Fail> {
     let gate = Holder::new(3);
     let record_ = listed(&rt, rt.alloc(), &protocol, &space, &gate)?;
     assert!(rt; gate.has_seen());
-    assert!(rt; is_one_round(&record_, &[0], &[1, 2, 3]));
-    assert_eq!(rt; kept_count(&record_), 1);
+    let Some(round) = only_round(&record_) else {
+        return Err(Fail::from("one round is wanted"));
+    };
+    assert!(rt; are_drawn(round, &[0], &[1, 2, 3]));
+    assert_eq!(rt; round.kept.len(), 1);
     Ok(())
 }
 
@@ -76,7 +79,10 @@ fn two_workers_finish_side_by_side(rt: HostRuntime) -> Result<(), Fail> {
     let gate = Holder::new(1);
     let record_ = exhausted(&rt, rt.alloc(), &protocol, &space, &gate)?;
     assert!(rt; gate.has_seen());
-    assert!(rt; is_one_round(&record_, &[0], &[1]));
-    assert_eq!(rt; kept_count(&record_), 2);
+    let Some(round) = only_round(&record_) else {
+        return Err(Fail::from("one round is wanted"));
+    };
+    assert!(rt; are_drawn(round, &[0], &[1]));
+    assert_eq!(rt; round.kept.len(), 2);
     Ok(())
 }
