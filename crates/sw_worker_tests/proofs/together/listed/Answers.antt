@@ -1,0 +1,14 @@
+use Rattle.std.specs.Prelude.{None}
+use Rattle.std.proofs.Common.{sym, subst}
+use Rattle.sw_enumerate.specs.Spaces.{Made, parts_in, formula_in}
+use Rattle.sw_search.specs.Spaces.{IsReadable}
+use Rattle.sw_search.proofs.Searchable.{can_search}
+use Rattle.sw_work.specs.Works.{CanSearch}
+use Rattle.sw_worker_tests.proofs.together.listed.Goals as goal
+
+pub breadth-requires-clause-can : goal.breadth-requires-clause-can
+breadth-requires-clause-can g c κs within =
+    let p = c.args.protocol.now in
+    let can = c.requires.can in
+    subst (λ (s : Made). CanSearch p s.template (parts_in s) (IsReadable s) (λ b. formula_in s b.cubes) None) (sym c.new-classes.ensures)
+    (can_search p can.extra c.args.space.now c.requires.well_formed can.breadth can.stratified None tt)
