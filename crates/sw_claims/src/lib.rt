@@ -10,6 +10,3 @@ pub use rule::{ClaimView, MOST_PARTS, MOST_SEATS};
 pub use seats::{ClaimSeat, Claims, Drawn};
 pub use sharing::share_out;
 pub use workers::fork;
-
-#[cfg(test)]
-mod tests;

@@ -8,6 +8,3 @@ pub mod seats;
 pub use entry::{Entry, copy_body, copy_entries};
 pub use rule::LogView;
 pub use seats::{Appended, LogSeat, SharedLog};
-
-#[cfg(test)]
-mod tests;

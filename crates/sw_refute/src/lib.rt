@@ -9,6 +9,3 @@ mod trail;
 
 pub use check::{StepsVerdict, check_steps};
 pub use clauses::{Clause, Cnf, Derived, Lit};
-
-#[cfg(test)]
-mod tests;

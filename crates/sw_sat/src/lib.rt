@@ -8,8 +8,6 @@ mod occurrences;
 mod propagate;
 mod solved;
 mod solver;
-#[cfg(test)]
-mod tests;
 mod trail;
 
 pub use solved::Solved;

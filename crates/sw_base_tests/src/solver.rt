@@ -2,12 +2,12 @@
 ghost use Rattle.std.specs.Prelude.{◌≤◌, ◌↔◌, IfSome, IsTrue};
 ghost use Rattle.sw_refute.specs.Satisfaction.{IsOver, IsWellFormed};
 
-use crate::{Solved, solve};
 use sqlite_items::Items;
 use std::alloc::{AllocError, Global};
 use std::process::Abort;
 use std::test::Fail;
 use sw_refute::{Clause, Cnf, Lit, StepsVerdict, check_steps};
+use sw_sat::{Solved, solve};
 
 fn clause_of(alloc: Global, numbers: &[u32]) -> Result<Clause, AllocError> {
     let mut lits = Items::new(alloc);

@@ -2,10 +2,10 @@
 ghost use Rattle.std.specs.Prelude.{◌≡◌, ◌≤◌, length, IfOk};
 ghost use Rattle.std.specs.Thread.{IsSync};
 
-use crate::{Appended, Entry, LogSeat, SharedLog};
 use std::alloc::{AllocError, Global};
 use std::sync::Wait;
 use std::thread::{Threads, join};
+use sw_log::{Appended, Entry, LogSeat, SharedLog};
 use sw_template::Body;
 
 fn entry_of(alloc: Global, cube: u32, worker: u32, under: u32) -> Entry

@@ -2,10 +2,10 @@
 ghost use Rattle.std.specs.Prelude.{◌≡◌, ◌<◌, IfOk};
 ghost use Rattle.sw_refute.specs.Satisfaction.{IsOver, IsWellFormed};
 
-use super::*;
 use sqlite_items::Items;
 use std::alloc::{AllocError, Global};
 use std::test::Fail;
+use sw_refute::{Clause, Cnf, Derived, Lit, StepsVerdict, check_steps};
 
 fn clause(alloc: Global, lits: &[u32]) -> Result<Clause, AllocError> {
     let mut list = Items::new(alloc);

@@ -1,6 +1,6 @@
 // What no clause says: that the calls succeed, and what several threads draw.
-use crate::{Claims, Drawn, fork, share_out};
 use std::alloc::AllocError;
+use sw_claims::{Claims, Drawn, fork, share_out};
 
 #[test]
 fn two_parts_end_and_the_first_reason_stands(rt: HostRuntime) -> Result<(), AllocError> {
