@@ -2,7 +2,7 @@
 use Rattle.std.specs.Prelude.{◌≡◌, ◌+◌, ◌<◌, ◌≤◌, ℕ, List, [], ◌∷◌, ◌++◌, length, None, Some, slice_get, vec_capacity}
 use Rattle.std.specs.List.{AllByRecursion}
 use Rattle.std.proofs.Common.{refl, sym, ap, ◌∙◌, inl, inr, subst, arith, append_assoc, length-append}
-use Rattle.std.proofs.lemmas.List.{append-nil, length_push}
+use Rattle.std.proofs.lemmas.List.{length_push}
 use Rattle.std.proofs.lemmas.List.Elements.{All-contains}
 use Rattle.std.proofs.lemmas.Option.{same_Some}
 use Rattle.sw_refute.specs.declared.clauses.Clause.{Clause}
@@ -22,9 +22,6 @@ settled_of known c standing.Satisfied a unit false = inl a
 settled_of known c standing.Open a unit false = inr a
 settled_of known c (standing.Unit l) a unit false = absurd (unit l refl)
 settled_of known c standing.Falsified a unit false = absurd (false refl)
-
-pub grows_none : (entries : List Entry) → Grows entries entries
-grows_none entries = record { more = []; is = sym (append-nil entries); forced = tt }
 
 pub grows_more : (old mid new : List Entry) → Grows old mid → Grows mid new → Grows old new
 grows_more old mid new g h = record {

@@ -14,7 +14,7 @@ pub record IsIndex (variables : ℕ) (clauses : List Clause) (lists : List (List
   pub complete : (number : ℕ) (c : Clause) (l : Lit) → slice_get clauses number ≡ Some c → Contains c.lits l → Contains (slice_index_or lists l.0 []) number
   pub sound : (at number : ℕ) → Contains (slice_index_or lists at []) number → number < length clauses
 
--- the number was added to the lists of these literals, and nothing else
+-- the number was added to the list of each of these literals, and no list has gained another number
 pub record HasAdded (old : List (List ℕ)) (lits : List Lit) (number : ℕ) (new : List (List ℕ)) : Type 0 where
   pub size : length new ≡ length old
   pub gained : (l : Lit) → Contains lits l → Contains (slice_index_or new l.0 []) number
