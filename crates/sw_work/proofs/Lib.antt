@@ -2,6 +2,7 @@ pub mod Alone
 pub mod Asked
 pub mod Begins
 pub mod Draws
+pub mod Following
 pub mod Handing
 pub mod Promised
 pub mod Rows

@@ -4,6 +4,7 @@ use Rattle.std.specs.List.{AllByRecursion}
 use mathlib.Core.List.{IsPrefix}
 use Rattle.sw_logic.specs.declared.syntax.Formula.{Formula}
 use Rattle.sw_meaning.specs.declared.template.Template.{Template}
+use Rattle.sw_meaning.specs.Inductive.{Follows}
 use Rattle.sw_template.specs.Bodies.{Class}
 use Rattle.sw_filter.specs.declared.filter.Filter.{Filter}
 use Rattle.sw_filter.specs.declared.filter.Mode.TheVariants.{Breadth}
@@ -25,6 +26,7 @@ use Rattle.sw_hand.specs.declared.hand.Task.{Task}
 use Rattle.sw_hand.specs.Hands.{search_of, IsView, IsHand, AreTokens, Grows, IsGoodBy}
 use Rattle.sw_work.specs.declared.bench.Bench.{Bench}
 use Rattle.sw_work.specs.declared.errors.BreadthError.{BreadthError}
+use Rattle.sw_work.specs.declared.implied.Implied.{Implied}
 use Rattle.sw_work.specs.declared.considering.Tried.{Tried}
 use Rattle.sw_work.specs.declared.considering.Tried.TheVariants.{Good, Added, Behind}
 use Rattle.sw_work.specs.declared.drawing.Drew.{Drew}
@@ -55,10 +57,16 @@ pub record Fits {S : Type 0} (template : S → Template) (task : Task S) (formul
   pub narrow : AreNarrow formulas
   pub holds : Holds template task formulas h
 
--- the bench has these entries, their formulas and the filters under them
+-- the classes follow from the formulas
+pub record AreImplied (m : Search) (formulas : List Formula) (classes : Implied) : Type 0 where
+  pub before : AllByRecursion (λ (c : List ℕ). Follows m.protocol formulas (formula_in m c)) (classes_of classes.before)
+  pub now : AllByRecursion (λ (c : List ℕ). Follows m.protocol formulas (formula_in m c)) (classes_of classes.now)
+
+-- the bench has these entries, their formulas, the filters under them, and classes that follow from them
 pub record Stands {S : Type 0} (template : S → Template) (task : Task S) (b : Bench S) (seen : List Entry) : Type 0 where
   pub listed : b.entries.items ≡ seen
   pub fits : Fits template task b.formulas b.hand seen
+  pub implied : AreImplied (searched template task) b.formulas b.implied
 
 -- ---- the list of the log
 

@@ -3,6 +3,7 @@ ghost use Rattle.std.specs.Prelude.{◌≡◌, IfOk};
 ghost use mathlib.Core.List.{IsPrefix};
 ghost use Rattle.sw_work.specs.Works.{bodies_of};
 
+use crate::implied::Implied;
 use sqlite_items::Items;
 use std::alloc::{AllocError, Global};
 use std::sync::Wait;
@@ -14,12 +15,14 @@ use sw_logic::Formula;
 use sw_template::Body;
 use sw_walk::Walk;
 
-/// The filters, and all entries of the log that the seat has seen, with their formulas.
+/// The filters, all entries of the log that the seat has seen, with their formulas, and classes that
+/// follow from those.
 #[derive(Drop)]
 pub struct Bench<'a, B> {
     pub hand: Hand<'a, B>,
     pub entries: Vec<Entry>,
     pub formulas: Items<Formula>,
+    pub implied: Implied,
 }
 
 /// What a worker works on, and with.
@@ -92,6 +95,7 @@ impl<'a, B: Candidates + Walk> Desk<'_, 'a, B> {
         requires longer { length formulas.old ≤ length entries.now }
         ensures fits { IfOk result (λ _. Fits B.template self.now.task.now formulas.new hand.new entries.now) }
         ensures kept { IfOk result (λ _. hand.new.kept ≡ hand.old.kept) }
+        ensures begins { IfOk result (λ _. IsPrefix formulas.old formulas.new) }
     {
         let from = formulas.len();
         self.add_formulas(alloc, formulas, &entries[from..])?;
@@ -130,7 +134,8 @@ impl<'a, B: Candidates + Walk> Desk<'_, 'a, B> {
         ensures kept { IfOk result (λ _. bench.new.hand.kept ≡ bench.old.hand.kept) }
     {
         bench.entries.push(entry)?;
-        self.extend(alloc, &mut bench.hand, &mut bench.formulas, &bench.entries)
+        self.extend(alloc, &mut bench.hand, &mut bench.formulas, &bench.entries)?;
+        Ok(())
     }
 
     /// A bench with what the log has now, and no filters.
@@ -151,6 +156,7 @@ impl<'a, B: Candidates + Walk> Desk<'_, 'a, B> {
             hand: self.task.hand(alloc),
             entries: Vec::new(alloc),
             formulas: Items::new(alloc),
+            implied: Implied::new(alloc),
         };
         self.take_in(alloc, &mut bench, entries)?;
         Ok(bench)

@@ -1,5 +1,5 @@
 //! One class at a time: sifted, examined, and appended where it is earned.
-ghost use Rattle.std.specs.Prelude.{◌≡◌, None, IfOk, IfErr, length};
+ghost use Rattle.std.specs.Prelude.{◌≡◌, None, IsTrue, IfOk, IfErr, length};
 ghost use Rattle.sw_filter.specs.Views.{FirstRejects};
 
 use crate::bench::{Bench, Desk, copy_bodies};
@@ -24,6 +24,7 @@ pub enum Tried {
 }
 
 impl<'a, B: Candidates + Walk> Desk<'_, 'a, B> {
+    ghost use Rattle.sw_meaning.specs.Inductive.{Follows};
     ghost use Rattle.sw_meaning.specs.Plain.{After};
     ghost use Rattle.sw_core.specs.Founded.{Gains};
     ghost use Rattle.sw_core.specs.Machine.{formula_in};
@@ -111,6 +112,45 @@ impl<'a, B: Candidates + Walk> Desk<'_, 'a, B> {
         Ok(Tried::Good)
     }
 
+    /// Whether the class is one that followed in the passage before.
+    fn recall(
+        &self,
+        alloc: Global,
+        bench: &mut Bench<'a, B>,
+        body: &Body,
+    ) -> Result<bool, AllocError>
+        requires can { CanWork B.template B.part_lists B.has B.formula_of self.now.task.now self.now.budget }
+        requires stands { Stands B.template self.now.task.now bench.old bench.old.entries.items }
+        ensures stands { IfOk result (λ _. Stands B.template self.now.task.now bench.new bench.old.entries.items) }
+        ensures hand { IfOk result (λ _. bench.new.hand ≡ bench.old.hand) }
+        ensures good { IfOk result (λ known. IsTrue known → IsGoodNow (searched B.template self.now.task.now) bench.old bench.new body.now.cubes) }
+    {
+        let known = bench.implied.is_next(body);
+        if known {
+            bench.implied.add(alloc, body)?;
+        }
+        Ok(known)
+    }
+
+    /// Remembers a class that follows.
+    fn remember(
+        &self,
+        alloc: Global,
+        bench: &mut Bench<'a, B>,
+        body: &Body,
+    ) -> Result<Tried, AllocError>
+        requires can { CanWork B.template B.part_lists B.has B.formula_of self.now.task.now self.now.budget }
+        requires stands { Stands B.template self.now.task.now bench.old bench.old.entries.items }
+        requires class { IsClass (B.part_lists self.now.task.now.space.now) body.now }
+        requires follows { Follows self.now.task.now.protocol.now bench.old.formulas (B.formula_of self.now.task.now.space.now body.now) }
+        ensures tried { IfOk result (λ tried. tried ≡ Good) }
+        ensures stands { IfOk result (λ _. Stands B.template self.now.task.now bench.new bench.old.entries.items) }
+        ensures good { IfOk result (λ _. IsGoodNow (searched B.template self.now.task.now) bench.old bench.new body.now.cubes) }
+    {
+        bench.implied.add(alloc, body)?;
+        Ok(Tried::Good)
+    }
+
     /// Examines a class that no filter rejects.
     fn examined<H: Wait>(
         &self,
@@ -142,7 +182,7 @@ impl<'a, B: Candidates + Walk> Desk<'_, 'a, B> {
             self.budget,
         )?;
         match found {
-            Examined::Follows(_) => Ok(Tried::Good),
+            Examined::Follows(_) => Ok(self.remember(alloc, bench, body)?),
             Examined::StartFails(filter) => Ok(self.keep(rt, alloc, bench, body, filter)?),
             Examined::NotKept(filter) => Ok(self.keep(rt, alloc, bench, body, filter)?),
             Examined::Earned {
@@ -161,8 +201,8 @@ impl<'a, B: Candidates + Walk> Desk<'_, 'a, B> {
         }
     }
 
-    /// Looks at a class once.
-    fn attempt<H: Wait>(
+    /// Sifts a class, and examines it where no filter rejects it.
+    fn sift_or_examine<H: Wait>(
         &self,
         rt: &H,
         alloc: Global,
@@ -188,6 +228,32 @@ impl<'a, B: Candidates + Walk> Desk<'_, 'a, B> {
             return Ok(Tried::Good);
         }
         self.examined(rt, alloc, bench, seat, body)
+    }
+
+    /// Looks at a class once: one that followed before is neither sifted nor examined.
+    fn attempt<H: Wait>(
+        &self,
+        rt: &H,
+        alloc: Global,
+        bench: &mut Bench<'a, B>,
+        seat: &mut LogSeat,
+        body: &Body,
+    ) -> Result<Tried, BreadthError>
+        requires can { CanWork B.template B.part_lists B.has B.formula_of self.now.task.now self.now.budget }
+        requires object { seat.old.object ≡ self.now.log.now }
+        requires stands { Stands B.template self.now.task.now bench.old seat.old.view.seen }
+        requires class { IsClass (B.part_lists self.now.task.now.space.now) body.now }
+        ensures object { seat.new.object ≡ seat.old.object }
+        ensures gained { Gained (searched B.template self.now.task.now) self.now.task.now.worker seat.old.view seat.new.view }
+        ensures stands { IfOk result (λ _. Stands B.template self.now.task.now bench.new seat.new.view.seen) }
+        ensures kept { IfOk result (λ _. KeepsMore bench.old.hand.kept bench.new.hand.kept) }
+        ensures tried { IfOk result (IsTried (searched B.template self.now.task.now) seat.old.view seat.new.view bench.old bench.new body.now) }
+        ensures cause { IfErr result (IsCauseAt (searched B.template self.now.task.now) self.now.budget seat.old.view seat.new.view) }
+    {
+        if self.recall(alloc, bench, body)? {
+            return Ok(Tried::Good);
+        }
+        self.sift_or_examine(rt, alloc, bench, seat, body)
     }
 
     /// Looks at a class until it is good or was added; whether the list has grown.

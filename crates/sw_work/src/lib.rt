@@ -5,6 +5,7 @@ pub mod bench;
 pub mod considering;
 pub mod drawing;
 pub mod errors;
+pub mod implied;
 pub mod passing;
 pub mod working;
 

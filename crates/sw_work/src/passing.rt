@@ -39,6 +39,7 @@ impl<'a, B: Candidates + Walk> Desk<'_, 'a, B> {
         ensures cause { IfErr result (Fails (searched B.template self.now.task.now) self.now.budget (Passage self.now.task.now.protocol.now (B.template self.now.task.now.space.now) (part_at (B.part_lists self.now.task.now.space.now) part)) seat.old.view seat.new.view) }
     {
         self.task.clear(&mut bench.hand, bench.formulas.as_slice())?;
+        bench.implied.begin(alloc);
         let mut changed = false;
         let mut next = self.task.space.first_of(part);
         for at in 0..u64::MAX {

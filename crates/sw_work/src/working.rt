@@ -57,6 +57,7 @@ impl<'a, B: Candidates + Walk> Desk<'_, 'a, B> {
             hand,
             entries: _,
             formulas: _,
+            implied: _,
         } = bench;
         let Hand {
             mine: _,

@@ -49,8 +49,18 @@ returns-in-Follows-clause-tried g c =
     let fs : List Formula = c.as_slice.result.now in
     let e : fs ≡ formulas = c.as_slice.ensures in
     let k = c.requires.class in
+    subst (IsTried m c.args.seat.now.view c.args.seat.now.view c.args.bench.now c.remember.new.bench body) (sym c.in_ok-remember-in-Follows.ensures.tried) (refl, c.in_ok-remember-in-Follows.ensures.good)
+
+pub remember-requires-clause-follows : goal.remember-requires-clause-follows
+remember-requires-clause-follows g c =
+    let task = c.args.self.now.task.now in
+    let p = task.protocol.now in
+    let body : Class = c.args.body.now in
+    let f : Formula = g.B.Candidates.formula_of task.space.now body in
+    let fs : List Formula = c.as_slice.result.now in
+    let e : fs ≡ c.args.bench.now.formulas = c.as_slice.ensures in
     let told = subst (IsExamined p fs f c.args.self.now.budget body) c.in-Follows.is c.in_ok-found.ensures in
-    (refl, good_follows g.B.Walk.template g.B.Walk.part_lists g.B.Candidates.has g.B.Candidates.formula_of task c.args.self.now.budget c.requires.can body c.args.bench.now c.args.bench.now k refl (subst (λ x. Follows p x f) e told.2))
+    subst (λ x. Follows p x f) e told.2
 
 pub keep-requires-clause-rejects : goal.keep-requires-clause-rejects
 keep-requires-clause-rejects g c =
