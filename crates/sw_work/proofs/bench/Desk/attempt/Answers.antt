@@ -1,6 +1,5 @@
-use Rattle.std.proofs.Common.{List, refl, subst, sym}
+use Rattle.std.proofs.Common.{refl, subst, sym}
 use Rattle.sw_template.specs.Bodies.{Class}
-use Rattle.sw_core.specs.declared.record.Kept.{Kept}
 use Rattle.sw_core.specs.Machine.{Search}
 use Rattle.sw_hand.specs.declared.hand.Hand.{Hand}
 use Rattle.sw_hand.specs.Hands.{Grows}

@@ -9,7 +9,7 @@ use Rattle.sw_examine.specs.Examinations.{IsExamined, Rejection}
 use Rattle.sw_core.specs.Machine.{Search}
 use Rattle.sw_work.specs.Works.{bodies_of}
 use Rattle.sw_work.specs.Steps.{IsTried, searched}
-use Rattle.sw_work.proofs.Asked.{has_it, can_ask, gains_of, rejects_of, asked_under, good_follows}
+use Rattle.sw_work.proofs.Asked.{has_it, can_ask, gains_of, rejects_of, asked_under}
 use Rattle.sw_work.proofs.bench.Desk.examined.Goals as goal
 
 pub examine-requires-clause-body : goal.examine-requires-clause-body
