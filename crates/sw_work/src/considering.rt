@@ -6,6 +6,8 @@ use crate::bench::{Bench, Desk, copy_bodies};
 use crate::errors::BreadthError;
 use std::alloc::{AllocError, Global};
 use std::sync::Wait;
+use sw_decide::Decision;
+use sw_examine::asking::Asking;
 use sw_examine::{Examined, copy_body, examine};
 use sw_filter::{Candidates, Filter};
 use sw_log::{Appended, Entry, LogSeat};
@@ -151,8 +153,31 @@ impl<'a, B: Candidates + Walk> Desk<'_, 'a, B> {
         Ok(Tried::Good)
     }
 
-    /// Examines a class that no filter rejects.
-    fn examined<H: Wait>(
+    /// Whether the class is known to follow from the list by one query. Of one that spends the budget or
+    /// is too large nothing is known.
+    fn follows(&self, alloc: Global, bench: &Bench<'a, B>, body: &Body) -> Result<bool, AllocError>
+        requires can { CanWork B.template B.part_lists B.has B.formula_of self.now.task.now self.now.budget }
+        requires stands { Stands B.template self.now.task.now bench.now bench.now.entries.items }
+        requires class { IsClass (B.part_lists self.now.task.now.space.now) body.now }
+        ensures { IfOk result (λ yes. IsTrue yes → Follows self.now.task.now.protocol.now bench.now.formulas (B.formula_of self.now.task.now.space.now body.now)) }
+    {
+        let formula = self.task.space.formula(alloc, body)?;
+        let asking = Asking {
+            protocol: self.task.protocol,
+            list: bench.formulas.as_slice(),
+            formula: &formula,
+            budget: self.budget,
+        };
+        match asking.ask_follow(alloc)? {
+            Decision::Refuted(_) => Ok(true),
+            Decision::Found(_) => Ok(false),
+            Decision::Spent(_) => Ok(false),
+            Decision::TooLarge(_) => Ok(false),
+        }
+    }
+
+    /// Asks the queries of a class in order; the first that decides tells what it is.
+    fn examine_in_order<H: Wait>(
         &self,
         rt: &H,
         alloc: Global,
@@ -199,6 +224,34 @@ impl<'a, B: Candidates + Walk> Desk<'_, 'a, B> {
                 Err(BreadthError::TooLarge { query, list, size })
             }
         }
+    }
+
+    /// Examines a class that no filter rejects. Most follow from the list, so that is asked first, and
+    /// the start of those is not asked about at all.
+    fn examined<H: Wait>(
+        &self,
+        rt: &H,
+        alloc: Global,
+        bench: &mut Bench<'a, B>,
+        seat: &mut LogSeat,
+        body: &Body,
+    ) -> Result<Tried, BreadthError>
+        requires can { CanWork B.template B.part_lists B.has B.formula_of self.now.task.now self.now.budget }
+        requires object { seat.old.object ≡ self.now.log.now }
+        requires stands { Stands B.template self.now.task.now bench.old seat.old.view.seen }
+        requires class { IsClass (B.part_lists self.now.task.now.space.now) body.now }
+        requires passed { FirstRejects self.now.task.now.protocol.now (B.formula_of self.now.task.now.space.now body.now) bench.old.hand.mine.shown.items None }
+        ensures object { seat.new.object ≡ seat.old.object }
+        ensures gained { Gained (searched B.template self.now.task.now) self.now.task.now.worker seat.old.view seat.new.view }
+        ensures stands { IfOk result (λ _. Stands B.template self.now.task.now bench.new seat.new.view.seen) }
+        ensures kept { IfOk result (λ _. KeepsMore bench.old.hand.kept bench.new.hand.kept) }
+        ensures tried { IfOk result (IsTried (searched B.template self.now.task.now) seat.old.view seat.new.view bench.old bench.new body.now) }
+        ensures cause { IfErr result (IsCauseAt (searched B.template self.now.task.now) self.now.budget seat.old.view seat.new.view) }
+    {
+        if self.follows(alloc, bench, body)? {
+            return Ok(self.remember(alloc, bench, body)?);
+        }
+        self.examine_in_order(rt, alloc, bench, seat, body)
     }
 
     /// Sifts a class, and examines it where no filter rejects it.
