@@ -2,6 +2,7 @@
 ghost use Rattle.std.specs.Prelude.{◌≡◌, ◌≤◌, length, IfOk};
 ghost use Rattle.std.specs.Thread.{IsSync};
 
+use crate::asserts::is;
 use std::alloc::{AllocError, Global};
 use std::sync::Wait;
 use std::thread::{Threads, join};
@@ -54,23 +55,27 @@ fn an_append_on_a_shorter_list_is_behind(rt: HostRuntime) -> Result<(), AllocErr
     let Some(mut second) = log.split(&mut first) else {
         panic!(rt; "the first seat has a split");
     };
-    assert!(rt; log.split(&mut first).is_none());
+    is(&rt, log.split(&mut first).is_none(), "no seat more");
     let done = log.append(&rt, alloc, &mut first, entry_of(alloc, 3, 0, 0));
-    assert!(rt; is_done(done));
-    assert_eq!(rt; log.length(&mut second), 1);
+    is(&rt, is_done(done), "the first entry");
+    is(&rt, log.length(&mut second) == 1, "one is seen");
     let seen = log.look(&rt, alloc, &mut second)?;
-    assert!(rt; is_one(&seen, 3, 0));
+    is(&rt, is_one(&seen, 3, 0), "the entry seen");
     let behind = log.append(&rt, alloc, &mut second, entry_of(alloc, 1, 1, 0));
     let Some(list) = list_behind(behind) else {
         panic!(rt; "the log is longer");
     };
-    assert!(rt; is_one(&list, 3, 0));
+    is(&rt, is_one(&list, 3, 0), "the entry that was missed");
     let again = log.look(&rt, alloc, &mut second)?;
-    assert!(rt; is_one(&again, 3, 0));
+    is(&rt, is_one(&again, 3, 0), "the entry seen again");
     log.join(&mut first, second);
     let all = log.look(&rt, alloc, &mut first)?;
-    assert!(rt; is_one(&all, 3, 0));
-    assert!(rt; is_one(&log.close(first), 3, 0));
+    is(&rt, is_one(&all, 3, 0), "the entry joined");
+    is(
+        &rt,
+        is_one(&log.close(first), 3, 0),
+        "the entry at the close",
+    );
     Ok(())
 }
 
@@ -182,13 +187,21 @@ fn four_threads_append_a_thousand_entries_each(rt: HostRuntime) -> Result<(), Al
     log.join(&mut first, b);
     log.join(&mut first, c);
     log.join(&mut first, d);
-    assert_eq!(rt; log.length(&mut first), 4000);
+    is(&rt, log.length(&mut first) == 4000, "all entries");
     let entries = log.look(&rt, alloc, &mut first)?;
     for (place, entry) in entries.iter().enumerate() {
-        assert_eq!(rt; entry.under as usize, place);
+        is(
+            &rt,
+            entry.under as usize == place,
+            "each under those before it",
+        );
     }
     for worker in 0..4 {
-        assert_eq!(rt; count_of(&entries, worker), 1000);
+        is(
+            &rt,
+            count_of(&entries, worker) == 1000,
+            "those of each worker",
+        );
     }
     Ok(())
 }

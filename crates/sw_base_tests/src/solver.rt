@@ -2,6 +2,7 @@
 ghost use Rattle.std.specs.Prelude.{◌≤◌, ◌↔◌, IfSome, IsTrue};
 ghost use Rattle.sw_refute.specs.Satisfaction.{IsOver, IsWellFormed};
 
+use crate::asserts::is;
 use sqlite_items::Items;
 use std::alloc::{AllocError, Global};
 use std::process::Abort;
@@ -73,22 +74,38 @@ fn answers_rightly(
 ) -> Result<(), AllocError>
     requires { IfSome budget (λ most. 1 ≤ most) }
 {
-    assert!(rt; is_well_formed(cnf));
+    is(rt, is_well_formed(cnf), "clauses in order");
     match solve(alloc, cnf, budget)? {
         Solved::Satisfied(values) => {
-            assert!(rt; satisfiable);
-            assert!(rt; are_true(cnf, bits_of(values.as_slice())));
+            is(rt, satisfiable, "there is an assignment");
+            is(
+                rt,
+                are_true(cnf, bits_of(values.as_slice())),
+                "it makes each clause true",
+            );
         }
         Solved::Refuted(steps) => {
-            assert!(rt; !satisfiable);
+            is(rt, !satisfiable, "there is none");
             let verdict = check_steps(alloc, cnf, steps.as_slice())?;
-            assert_eq!(rt; verdict, StepsVerdict::Accepted { empty: true });
+            is(
+                rt,
+                verdict == StepsVerdict::Accepted { empty: true },
+                "the steps are accepted",
+            );
         }
         Solved::Spent(steps) => {
-            assert_eq!(rt; Some(steps.len() as u64), budget);
-            assert!(rt; steps.len() < 8192);
+            is(
+                rt,
+                Some(steps.len() as u64) == budget,
+                "each step of the budget",
+            );
+            is(rt, steps.len() < 8192, "a budget of few");
             let verdict = check_steps(alloc, cnf, steps.as_slice())?;
-            assert_eq!(rt; verdict, StepsVerdict::Accepted { empty: false });
+            is(
+                rt,
+                verdict == StepsVerdict::Accepted { empty: false },
+                "the steps are accepted",
+            );
         }
     }
     Ok(())

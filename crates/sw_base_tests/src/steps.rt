@@ -2,6 +2,7 @@
 ghost use Rattle.std.specs.Prelude.{◌≡◌, ◌<◌, IfOk};
 ghost use Rattle.sw_refute.specs.Satisfaction.{IsOver, IsWellFormed};
 
+use crate::asserts::is;
 use sqlite_items::Items;
 use std::alloc::{AllocError, Global};
 use std::test::Fail;
@@ -54,17 +55,29 @@ fn verdict(alloc: Global, steps: &[(&[u32], &[u32])]) -> Result<StepsVerdict, Al
 fn two_steps_refute_the_square(rt: HostRuntime) -> Result<(), Fail> {
     let alloc = rt.alloc();
     let told = verdict(alloc, &[(&[1], &[2, 3]), (&[], &[4, 0, 1])])?;
-    assert_eq!(rt; told, StepsVerdict::Accepted { empty: true });
+    is(
+        &rt,
+        told == StepsVerdict::Accepted { empty: true },
+        "accepted",
+    );
     let told = verdict(alloc, &[(&[1, 1], &[2, 3]), (&[], &[4, 0, 1])])?;
-    assert_eq!(rt;
-        told,
-        StepsVerdict::Accepted { empty: true },
-        "equal literals are one"
+    is(
+        &rt,
+        told == StepsVerdict::Accepted { empty: true },
+        "equal literals are one",
     );
     let told = verdict(alloc, &[(&[1], &[2, 3])])?;
-    assert_eq!(rt; told, StepsVerdict::Accepted { empty: false });
+    is(
+        &rt,
+        told == StepsVerdict::Accepted { empty: false },
+        "no empty clause",
+    );
     let told = verdict(alloc, &[])?;
-    assert_eq!(rt; told, StepsVerdict::Accepted { empty: false }, "no steps");
+    is(
+        &rt,
+        told == StepsVerdict::Accepted { empty: false },
+        "no steps",
+    );
     Ok(())
 }
 
@@ -85,7 +98,7 @@ fn wrong_first_steps_are_refused(rt: HostRuntime) -> Result<(), Fail> {
     ];
     for (why, lits, hints) in steps {
         let told = verdict(alloc, &[(lits, hints), (&[1], &[2, 3])])?;
-        assert_eq!(rt; told, StepsVerdict::Refused { step: 0 }, "{why}");
+        is(&rt, told == StepsVerdict::Refused { step: 0 }, why);
     }
     Ok(())
 }
@@ -94,6 +107,10 @@ fn wrong_first_steps_are_refused(rt: HostRuntime) -> Result<(), Fail> {
 fn the_first_wrong_step_is_named(rt: HostRuntime) -> Result<(), Fail> {
     let alloc = rt.alloc();
     let told = verdict(alloc, &[(&[1], &[2, 3]), (&[], &[4, 0]), (&[], &[0])])?;
-    assert_eq!(rt; told, StepsVerdict::Refused { step: 1 });
+    is(
+        &rt,
+        told == StepsVerdict::Refused { step: 1 },
+        "the second step",
+    );
     Ok(())
 }

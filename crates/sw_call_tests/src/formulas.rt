@@ -1,4 +1,5 @@
 //! Texts of formulas: their canonical text, or their first fault and its place.
+use crate::asserts::is_text;
 use crate::reading::protocol_of;
 use sqlite_items::Items;
 use std::alloc::{AllocError, Global};
@@ -200,7 +201,7 @@ fn is_told(
     wanted: &str,
 ) -> Result<(), AllocError> {
     let found = told(alloc, signature, scope, text)?;
-    assert!(rt; found.as_str() == wanted, "{text}: {found}");
+    is_text(rt, text, found.as_str(), wanted);
     Ok(())
 }
 

@@ -3,9 +3,9 @@
 #![tactic(auto)]
 
 #[cfg(test)]
-mod edges;
+mod asserts;
 #[cfg(test)]
-mod entries;
+mod edges;
 #[cfg(test)]
 mod formulas;
 #[cfg(test)]

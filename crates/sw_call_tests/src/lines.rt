@@ -1,4 +1,5 @@
 //! Which command lines are which commands.
+use crate::asserts::is_text;
 use std::alloc::{AllocError, Global};
 use std::process::Abort;
 use std::test::Fail;
@@ -149,7 +150,7 @@ fn is_told(rt: &impl Abort, alloc: Global, line: &str, wanted: &str) -> Result<(
         words.push(String::from_str(alloc, word)?)?;
     }
     let found = told(alloc, words.as_slice())?;
-    assert!(rt; found.as_str() == wanted, "{line}: {found}");
+    is_text(rt, line, found.as_str(), wanted);
     Ok(())
 }
 
@@ -159,7 +160,7 @@ fn lines_are_their_commands(rt: HostRuntime) -> Result<(), Fail> {
     for (line, wanted) in LINES.iter() {
         is_told(&rt, alloc, line, wanted)?;
     }
-    assert_eq!(rt; told(alloc, &[])?.as_str(), "usage");
+    is_text(&rt, "no words", told(alloc, &[])?.as_str(), "usage");
     // a word has 4096 bytes at most
     let longest = "x".repeat(alloc, 4096)?;
     let within = format!(in alloc; "space;{longest}")?;

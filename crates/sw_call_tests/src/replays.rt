@@ -1,4 +1,5 @@
 //! A record that is written by hand, and whether the core machine takes its steps.
+use crate::asserts::is;
 use sqlite_items::Items;
 use std::alloc::{AllocError, Global};
 use std::test::Fail;
@@ -156,19 +157,13 @@ fn replays(alloc: Global, record: &Record) -> Result<Option<bool>, AllocError> {
 fn a_record_written_by_hand_is_replayed(rt: HostRuntime) -> Result<(), Fail> {
     let alloc = rt.alloc();
     let whole = two_rounds(alloc, true)?;
-    assert!(rt;
-        replays(alloc, &whole)? == Some(true),
-        "all steps are taken"
-    );
+    let found = replays(alloc, &whole)?;
+    is(&rt, found == Some(true), "all steps are taken");
     let stale = one_round(alloc)?;
-    assert!(rt;
-        replays(alloc, &stale)? == Some(false),
-        "the step is not live under !y"
-    );
+    let found = replays(alloc, &stale)?;
+    is(&rt, found == Some(false), "the step is not live under !y");
     let held = two_rounds(alloc, false)?;
-    assert!(rt;
-        replays(alloc, &held)? == Some(false),
-        "the part of y is in a hand"
-    );
+    let found = replays(alloc, &held)?;
+    is(&rt, found == Some(false), "the part of y is in a hand");
     Ok(())
 }

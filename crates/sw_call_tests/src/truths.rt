@@ -1,4 +1,5 @@
 //! Formulas in finite structures: where they are true, what is of a signature, and what is well sorted.
+use crate::asserts::{is, is_text};
 use crate::reading::{protocol_of, sentence_of, structure_of};
 use sqlite_items::Items;
 use std::alloc::Global;
@@ -139,8 +140,8 @@ fn is_true(
     let structure = structure_of(alloc, signature, text)?;
     let sentence = sentence_of(alloc, signature, formula, true)?;
     let found = holds(signature, &structure, &sentence, &Env::new());
-    assert!(rt; found == wanted, "{formula} in {text}");
-    assert!(rt; fits(signature, &structure), "{text}");
+    is(rt, found == wanted, formula);
+    is(rt, fits(signature, &structure), text);
     Ok(())
 }
 
@@ -157,7 +158,7 @@ fn is_true_on(
     };
     let sentence = sentence_of(alloc, signature, formula, true)?;
     let found = holds_pair(signature, &pair, &sentence, &Env::new());
-    assert!(rt; found == wanted, "{formula} from {before} to {after}");
+    is(rt, found == wanted, formula);
     Ok(())
 }
 
@@ -172,10 +173,7 @@ fn is_pair(
         before: structure_of(alloc, signature, before)?,
         after: structure_of(alloc, signature, after)?,
     };
-    assert!(rt;
-        fits_pair(signature, &pair) == wanted,
-        "from {before} to {after}"
-    );
+    is(rt, fits_pair(signature, &pair) == wanted, after);
     Ok(())
 }
 
@@ -231,10 +229,7 @@ fn is_of(rt: &impl Abort, alloc: Global, row: (&str, &str, &str, bool)) -> Resul
     let (first, second, text, wanted) = row;
     let structure = structure_of(alloc, &protocol_of(alloc, first)?.signature, text)?;
     let other = protocol_of(alloc, second)?;
-    assert!(rt;
-        fits(&other.signature, &structure) == wanted,
-        "{second}: {text}"
-    );
+    is(rt, fits(&other.signature, &structure) == wanted, second);
     Ok(())
 }
 
@@ -257,18 +252,14 @@ fn is_sorted(
         sorts: Items::new(alloc),
         post: true,
     };
-    assert!(rt;
-        well_sorted(signature, &formula, &scope) == with_primes,
-        "{text}"
-    );
+    let sorted = well_sorted(signature, &formula, &scope);
+    is(rt, sorted == with_primes, text);
     scope.post = false;
-    assert!(rt;
-        well_sorted(signature, &formula, &scope) == without,
-        "{text}"
-    );
+    let sorted = well_sorted(signature, &formula, &scope);
+    is(rt, sorted == without, text);
     let copy = copy_formula(alloc, &formula)?;
     let printed = print_formula(alloc, signature, &scope, &copy)?;
-    assert!(rt; printed.as_str() == text, "{printed}");
+    is_text(rt, "a copy", printed.as_str(), text);
     Ok(())
 }
 
@@ -288,10 +279,14 @@ fn what_fits_and_what_is_well_sorted_is_told(rt: HostRuntime) -> Result<(), Fail
         sorts: Items::new(alloc),
         post: false,
     };
-    assert!(rt; !well_sorted(&other.signature, &formula, &plain));
+    is(
+        &rt,
+        !well_sorted(&other.signature, &formula, &plain),
+        "another signature",
+    );
     let crossed = structure_of(alloc, &edges.signature, CROSSED)?;
     let copy = copy_structure(alloc, &crossed)?;
     let printed = print_structure(alloc, &edges.signature, &copy)?;
-    assert!(rt; printed.as_str() == CROSSED, "{printed}");
+    is_text(&rt, "a copy", printed.as_str(), CROSSED);
     Ok(())
 }

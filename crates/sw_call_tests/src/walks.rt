@@ -2,6 +2,7 @@
 ghost use Rattle.std.specs.Prelude.{◌<◌, length};
 ghost use Rattle.sw_enumerate.specs.Spaces.{parts_in};
 
+use crate::asserts::{is, is_text};
 use sqlite_items::Items;
 use std::alloc::{AllocError, Global};
 use std::process::Abort;
@@ -123,10 +124,10 @@ fn push_texts(
 fn a_walk_meets_each_class(rt: HostRuntime) -> Result<(), Fail> {
     for (text, atoms, cubes, classes) in SIZES.iter() {
         let space = space(rt.alloc(), text)?;
-        assert!(rt; space.atoms() == *atoms, "{text}");
-        assert!(rt; space.cubes() == *cubes, "{text}");
-        assert!(rt; space.class_count() == *classes, "{text}");
-        assert!(rt; met(&space) == *classes, "{text}");
+        is(&rt, space.atoms() == *atoms, text);
+        is(&rt, space.cubes() == *cubes, text);
+        is(&rt, space.class_count() == *classes, text);
+        is(&rt, met(&space) == *classes, text);
     }
     Ok(())
 }
@@ -143,7 +144,7 @@ fn classes_have_their_formulas(rt: HostRuntime) -> Result<(), Fail> {
         for part in 0..space.parts() {
             push_texts(alloc, &mut texts, &protocol.signature, &space, part)?;
         }
-        assert!(rt; texts.as_str() == *wanted, "{text}: {texts}");
+        is_text(&rt, text, texts.as_str(), wanted);
     }
     Ok(())
 }

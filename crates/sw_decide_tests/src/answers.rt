@@ -4,6 +4,7 @@ ghost use Rattle.sw_meaning.specs.Edges.{IsStratifiedWith};
 ghost use Rattle.sw_meaning.specs.WellFormed.{IsWellFormed};
 
 use crate::asked::{are_true, checked, protocol_of};
+use crate::asserts::{is, is_text};
 use std::alloc::{AllocError, Global};
 use std::process::Abort;
 use std::test::Fail;
@@ -205,7 +206,7 @@ fn is_told(rt: &impl Abort, alloc: Global, row: (&str, &str)) -> Result<(), Fail
     let text = format!(in alloc; "{text} safety false;")?;
     let protocol = protocol_of(alloc, text.as_str())?;
     let answer = told(alloc, &protocol)?;
-    assert!(rt; answer.as_str().starts_with(wanted), "{text}: {answer}");
+    is(rt, answer.as_str().starts_with(wanted), answer.as_str());
     Ok(())
 }
 
@@ -233,11 +234,15 @@ fn spent(decision: &Decision) -> Option<usize> {
 fn a_budget_is_spent_or_enough(rt: HostRuntime) -> Result<(), Fail> {
     let alloc = rt.alloc();
     let protocol = protocol_of(alloc, PIGEONS)?;
-    assert_eq!(rt; told(alloc, &protocol)?.as_str(), "refuted");
+    is_text(&rt, "a query", told(alloc, &protocol)?.as_str(), "refuted");
     let query = safety_at_start(alloc, &protocol)?;
     let decision = decide(alloc, &query, Some(1))?;
-    assert_eq!(rt; spent(&decision), Some(1));
+    is(&rt, spent(&decision) == Some(1), "one step");
     let decision = decide(alloc, &query, Some(1_000_000))?;
-    assert!(rt; matches!(decision, Decision::Refuted(_)));
+    is(
+        &rt,
+        matches!(decision, Decision::Refuted(_)),
+        "a budget of many",
+    );
     Ok(())
 }

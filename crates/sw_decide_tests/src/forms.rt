@@ -2,6 +2,7 @@
 ghost use Rattle.sw_meaning.specs.WellFormed.{IsWellFormed};
 
 use crate::asked::protocol_of;
+use crate::asserts::{is, is_text};
 use sqlite_items::Items;
 use std::alloc::{AllocError, Global};
 use std::process::Abort;
@@ -60,9 +61,9 @@ fn formulas_have_their_normal_forms(rt: HostRuntime) -> Result<(), Fail> {
     let protocol = protocol_of(alloc, DECLARED)?;
     for (text, wanted, denied) in FORMS.iter() {
         let form = normal(alloc, &protocol.signature, text, false)?;
-        assert!(rt; form.as_str() == *wanted, "{text}: {form}");
+        is_text(&rt, text, form.as_str(), wanted);
         let form = normal(alloc, &protocol.signature, text, true)?;
-        assert!(rt; form.as_str() == *denied, "not {text}: {form}");
+        is_text(&rt, text, form.as_str(), denied);
     }
     Ok(())
 }
@@ -98,7 +99,11 @@ fn edges_lie_on_cycles(rt: HostRuntime) -> Result<(), Fail> {
     let alloc = rt.alloc();
     let protocol = protocol_of(alloc, LED)?;
     for (from, to, wanted) in EDGES.iter() {
-        assert_eq!(rt; cycle(alloc, &protocol, *from, *to)?, *wanted);
+        is(
+            &rt,
+            cycle(alloc, &protocol, *from, *to)? == *wanted,
+            "an edge",
+        );
     }
     Ok(())
 }

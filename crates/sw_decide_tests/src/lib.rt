@@ -7,6 +7,8 @@ mod answers;
 #[cfg(test)]
 mod asked;
 #[cfg(test)]
+mod asserts;
+#[cfg(test)]
 mod forms;
 #[cfg(test)]
 mod limits;

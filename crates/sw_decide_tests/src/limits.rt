@@ -3,6 +3,7 @@ ghost use Rattle.sw_logic.specs.Queries.{IsQuery};
 ghost use Rattle.sw_ground.specs.Verdict.{IsStratifiedQuery};
 
 use crate::asked::{protocol_of, size_of};
+use crate::asserts::{is, is_text};
 use std::alloc::{AllocError, Global};
 use std::process::Abort;
 use std::test::Fail;
@@ -55,8 +56,8 @@ fn is_sized(rt: &impl Abort, alloc: Global, row: (&str, u128, u128)) -> Result<(
     let protocol = protocol_of(alloc, text.as_str())?;
     let query = safety_at_start(alloc, &protocol)?;
     let size = size_of(alloc, &query)?;
-    assert!(rt; size.terms == terms, "{text}");
-    assert!(rt; size.instances == instances, "{text}");
+    is(rt, size.terms == terms, text.as_str());
+    is(rt, size.instances == instances, text.as_str());
     Ok(())
 }
 
@@ -164,8 +165,8 @@ fn is_limited(rt: &impl Abort, alloc: Global, row: (&[u32], &str, &str, &str)) -
     let text = text_of(alloc, counts, more)?;
     let protocol = protocol_of(alloc, text.as_str())?;
     let query = safety_at_start(alloc, &protocol)?;
-    assert_eq!(rt; told(alloc, &query)?.as_str(), decided);
-    assert_eq!(rt; listed(alloc, &query)?.as_str(), all);
+    is_text(rt, more, told(alloc, &query)?.as_str(), decided);
+    is_text(rt, more, listed(alloc, &query)?.as_str(), all);
     Ok(())
 }
 

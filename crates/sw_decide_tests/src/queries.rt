@@ -2,6 +2,7 @@
 ghost use Rattle.std.specs.Prelude.{[], ◌<◌, length};
 
 use crate::asked::protocol_of;
+use crate::asserts::{is, is_text};
 use sqlite_items::Items;
 use std::alloc::{AllocError, Global};
 use std::process::Abort;
@@ -129,7 +130,7 @@ fn is_asked(
     let f = sentence_of(alloc, &protocol.signature, f)?;
     let query = asked(alloc, protocol, kind, list.as_slice(), &f)?;
     let text = printed(alloc, &query)?;
-    assert!(rt; text.as_str() == wanted, "{kind}: {text}");
+    is_text(rt, kind, text.as_str(), wanted);
     Ok(())
 }
 
@@ -168,13 +169,13 @@ fn a_step_is_split(rt: HostRuntime) -> Result<(), Fail> {
     let Ok(structure) = read_structure(alloc, &query.signature, STEP.as_bytes()) else {
         return Err(Fail::from("a text of a structure is wanted"));
     };
-    assert!(rt; fits(&query.signature, &structure));
+    is(&rt, fits(&query.signature, &structure), "a structure");
     let (pair, arguments) = split_step(alloc, &protocol, 0, &structure)?;
-    assert!(rt; fits_pair(&protocol.signature, &pair));
+    is(&rt, fits_pair(&protocol.signature, &pair), "a step");
     let before = print_structure(alloc, &protocol.signature, &pair.before)?;
-    assert_eq!(rt; before.as_str(), BEFORE);
+    is_text(&rt, "before", before.as_str(), BEFORE);
     let after = print_structure(alloc, &protocol.signature, &pair.after)?;
-    assert_eq!(rt; after.as_str(), AFTER);
-    assert_eq!(rt; arguments.as_slice(), [1].as_slice());
+    is_text(&rt, "after", after.as_str(), AFTER);
+    is(&rt, arguments.as_slice() == [1].as_slice(), "arguments");
     Ok(())
 }

@@ -1,5 +1,6 @@
 //! Refutations that are accepted, and where others are refused.
 use crate::asked::{checked, protocol_of};
+use crate::asserts::is_text;
 use sqlite_items::Items;
 use std::alloc::Global;
 use std::process::Abort;
@@ -236,10 +237,7 @@ fn is_checked(rt: &impl Abort, alloc: Global, row: (&str, &str, &str, &str)) -> 
     let query = safety_at_start(alloc, &protocol)?;
     let refutation = refutation_of(alloc, instances, steps)?;
     let verdict = checked(alloc, &query, &refutation)?;
-    assert!(rt;
-        verdict.as_str() == wanted,
-        "{text} by {instances}, {steps}: {verdict}"
-    );
+    is_text(rt, instances, verdict.as_str(), wanted);
     Ok(())
 }
 

@@ -1,4 +1,5 @@
 //! When the workers of a search pass its gate.
+use crate::asserts::is;
 use crate::running::{is_ended, run_on};
 use crate::runs::{SWAP, SWAP_REPORT};
 use std::sync::atomic::{AtomicU64, Ordering};
@@ -76,7 +77,7 @@ fn a_search_passes_its_gate_after_each_draw(rt: HostRuntime) -> Result<(), Fail>
         &gate,
     )?;
     is_ended(&rt, &ended, 0, SWAP_REPORT, "");
-    assert_eq!(rt; gate.passages.load(Ordering::SeqCst), 8);
+    is(&rt, gate.passages.load(Ordering::SeqCst) == 8, "passages");
     Ok(())
 }
 
@@ -96,7 +97,7 @@ fn two_workers_search_at_once(rt: HostRuntime) -> Result<(), Fail> {
         &[],
         &gate,
     )?;
-    assert_eq!(rt; ended.status, 0);
-    assert_eq!(rt; gate.seen.load(Ordering::SeqCst), 1);
+    is(&rt, ended.status == 0, "the status");
+    is(&rt, gate.seen.load(Ordering::SeqCst) == 1, "seen");
     Ok(())
 }

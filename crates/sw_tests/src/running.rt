@@ -1,4 +1,5 @@
 //! Whole runs over a source and sinks in memory.
+use crate::asserts::is;
 use std::alloc::{AllocError, Global};
 use std::process::Abort;
 use std::sync::Wait;
@@ -77,14 +78,22 @@ pub fn check_on(
 
 /// Asserts that a run ended with this status and one of these texts for `out`.
 pub fn is_either<R: Abort>(rt: &R, ended: &Ended, status: u8, one: &str, other: &str) {
-    assert!(rt; ended.err.is_empty());
-    assert!(rt; ended.out.as_slice() == one.as_bytes() || ended.out.as_slice() == other.as_bytes());
-    assert_eq!(rt; ended.status, status);
+    is(rt, ended.err.is_empty(), "no refusal");
+    is(
+        rt,
+        ended.out.as_slice() == one.as_bytes() || ended.out.as_slice() == other.as_bytes(),
+        "one of the two",
+    );
+    is(rt, ended.status == status, "the status");
 }
 
 /// Asserts what a run ended with.
 pub fn is_ended<R: Abort>(rt: &R, ended: &Ended, status: u8, out: &str, err: &str) {
-    assert_eq!(rt; ended.err.as_slice(), err.as_bytes());
-    assert_eq!(rt; ended.out.as_slice(), out.as_bytes());
-    assert_eq!(rt; ended.status, status);
+    is(rt, ended.err.as_slice() == err.as_bytes(), err);
+    is(
+        rt,
+        ended.out.as_slice() == out.as_bytes(),
+        "what was written",
+    );
+    is(rt, ended.status == status, "the status");
 }

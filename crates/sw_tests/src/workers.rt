@@ -1,4 +1,5 @@
 //! Searches by many workers: what does not hang on the schedule is as with one.
+use crate::asserts::is;
 use crate::running::{is_either, run_on};
 use crate::runs::{FINISHED, SWAP, SWAP_REPORT, TOKEN, TOKEN_REPORT, UNSETTLED};
 use std::alloc::{AllocError, Global};
@@ -54,8 +55,12 @@ fn says_the_same<R: Threads + Wait + Sync + Abort>(
     let Ok(out) = str::from_utf8(ended.out.as_slice()) else {
         return Err(Fail::from("a report is wanted"));
     };
-    assert_eq!(rt; ended.status, status);
-    assert_eq!(rt; classes_and_word(out), classes_and_word(report));
+    is(rt, ended.status == status, "the status");
+    is(
+        rt,
+        classes_and_word(out) == classes_and_word(report),
+        "classes and word",
+    );
     Ok(())
 }
 

@@ -7,6 +7,7 @@ ghost use Rattle.sw_hand.specs.declared.hand.Handed.{Handed};
 ghost use Rattle.sw_work.specs.declared.working.Worked.TheVariants.{Done};
 ghost use Rattle.sw_search.specs.Spaces.{CanSearch};
 
+use crate::asserts::is;
 use crate::gates::Open;
 use crate::inputs::{OFF, literals_of, protocol_of, publish_off_start};
 use std::alloc::Global;
@@ -122,9 +123,9 @@ fn take_turns<R: Wait + Abort>(
     let Worked::Done(whole) = round(rt, alloc, task, &claims, &mut claim, &log, &mut seat)? else {
         return Err(Fail::from("a whole round is wanted"));
     };
-    assert!(rt; is_whole(&whole, token));
+    is(rt, is_whole(&whole, token), "all parts are drawn");
     let entries = log.look(rt, alloc, &mut seat)?;
-    assert!(rt; are_off(&entries));
+    is(rt, are_off(&entries), "what is off is found");
     let next = Task { worker: 1, ..*task };
     let late = round(
         rt,
@@ -135,10 +136,10 @@ fn take_turns<R: Wait + Abort>(
         &log,
         &mut next_seat,
     )?;
-    assert!(rt; is_empty(&late));
+    is(rt, is_empty(&late), "no part is left");
     claims.stop(&mut next_claim, 7);
     let stopped = round(rt, alloc, task, &claims, &mut claim, &log, &mut seat)?;
-    assert_eq!(rt; reason(&stopped), 7);
+    is(rt, reason(&stopped) == 7, "the reason");
     Ok(())
 }
 

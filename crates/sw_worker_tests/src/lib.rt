@@ -5,6 +5,8 @@
 #[cfg(test)]
 mod alone;
 #[cfg(test)]
+mod asserts;
+#[cfg(test)]
 mod gates;
 #[cfg(test)]
 mod inputs;

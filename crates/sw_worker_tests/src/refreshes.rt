@@ -2,6 +2,7 @@
 ghost use Rattle.std.specs.Prelude.{◌≡◌};
 ghost use Rattle.sw_meaning.specs.WellFormed.{IsWellFormed};
 
+use crate::asserts::is;
 use crate::inputs::{OFF, literals_of, protocol_of, publish_off_start};
 use std::alloc::{AllocError, Global};
 use std::process::Abort;
@@ -70,17 +71,17 @@ fn share<'a, R: Wait + Abort>(
     let mut view = View::new(alloc, protocol, classes, Mode::Breadth);
     let mut cursor = Cursor::new(alloc);
     let first = found(alloc, pool, &mut cursor, &mut view)?;
-    assert!(rt; is_this(&first, &token));
-    assert!(rt; is_off_start(&view.shown));
+    is(rt, is_this(&first, &token), "the filter published");
+    is(rt, is_off_start(&view.shown), "it is shown");
     let second = found(alloc, pool, &mut cursor, &mut view)?;
-    assert!(rt; second.is_empty());
-    assert!(rt; is_off_start(&view.shown));
+    is(rt, second.is_empty(), "no more");
+    is(rt, is_off_start(&view.shown), "and no other is shown");
     let mut noted = Cursor::new(alloc);
     noted.note(&token)?;
     let mut own = View::new(alloc, protocol, classes, Mode::Breadth);
     let none = found(alloc, pool, &mut noted, &mut own)?;
-    assert!(rt; none.is_empty());
-    assert!(rt; own.shown.is_empty());
+    is(rt, none.is_empty(), "its own is not found");
+    is(rt, own.shown.is_empty(), "nor shown");
     Ok(())
 }
 

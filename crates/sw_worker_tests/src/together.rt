@@ -3,6 +3,7 @@ ghost use Rattle.std.specs.Prelude.{None, Some};
 ghost use Rattle.sw_meaning.specs.WellFormed.{IsWellFormed};
 ghost use Rattle.sw_search.specs.Spaces.{CanSearch};
 
+use crate::asserts::is;
 use crate::gates::Holder;
 use crate::inputs::{OFF, literals_of, protocol_of};
 use crate::records::{are_drawn, only_round};
@@ -63,12 +64,12 @@ fn two_workers_list_side_by_side(rt: HostRuntime) -> Result<(), Fail> {
     let space = literals_of(rt.alloc(), &protocol)?;
     let gate = Holder::new(3);
     let record_ = listed(&rt, rt.alloc(), &protocol, &space, &gate)?;
-    assert!(rt; gate.has_seen());
+    is(&rt, gate.has_seen(), "both were at work");
     let Some(round) = only_round(&record_) else {
         return Err(Fail::from("one round is wanted"));
     };
-    assert!(rt; are_drawn(round, &[0], &[1, 2, 3]));
-    assert_eq!(rt; round.kept.len(), 1);
+    is(&rt, are_drawn(round, &[0], &[1, 2, 3]), "the parts of each");
+    is(&rt, round.kept.len() == 1, "one filter is kept");
     Ok(())
 }
 
@@ -78,11 +79,11 @@ fn two_workers_finish_side_by_side(rt: HostRuntime) -> Result<(), Fail> {
     let space = literals_of(rt.alloc(), &protocol)?;
     let gate = Holder::new(1);
     let record_ = exhausted(&rt, rt.alloc(), &protocol, &space, &gate)?;
-    assert!(rt; gate.has_seen());
+    is(&rt, gate.has_seen(), "both were at work");
     let Some(round) = only_round(&record_) else {
         return Err(Fail::from("one round is wanted"));
     };
-    assert!(rt; are_drawn(round, &[0], &[1]));
-    assert_eq!(rt; round.kept.len(), 2);
+    is(&rt, are_drawn(round, &[0], &[1]), "the parts of each");
+    is(&rt, round.kept.len() == 2, "two filters are kept");
     Ok(())
 }

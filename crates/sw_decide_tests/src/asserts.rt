@@ -1,0 +1,16 @@
+//! Assertions as calls: one that is written out in a test takes some four seconds to prove.
+ghost use Rattle.std.specs.Prelude.{IsTrue};
+
+use std::process::Abort;
+
+/// Asserts what the words say.
+pub fn is(rt: &impl Abort, holds: bool, words: &str)
+    ensures { IsTrue holds }
+{
+    assert!(rt; holds, "{words}");
+}
+
+/// Asserts that the text found of something, which is named, is the one wanted.
+pub fn is_text(rt: &impl Abort, of: &str, found: &str, wanted: &str) {
+    assert!(rt; found == wanted, "{of}: {found}");
+}
